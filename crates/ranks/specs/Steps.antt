@@ -1,0 +1,39 @@
+-- The rank steps: insert, take out, first. Messages and waiters share them. Insert and take out say what becomes of the position of record `j`.
+use Rattle.ranks.specs.Prelude.{ℕ, suc, _-_, _<_, _≡_, Bool, true, false, _&&_, List, [], map, getD, eqb, leb, ltb}
+use Rattle.ranks.specs.Lists.{if_then_else_, _implies_, mapWithIndex, count, every, firstThat, range}
+use Rattle.ranks.specs.Position.{Position, noQueue, positionAt, inQueue, standsAt}
+use Rattle.ranks.specs.Table.{positionIn}
+
+-- Record `i` is put at a rank of the queue; those at that rank or behind it move back by one.
+unfoldable pub inserted : (i slot rank j : ℕ) → Position → Position
+inserted i slot rank j p =
+    if eqb j i then positionAt slot rank else if inQueue slot p && leb rank (p .rank) then positionAt slot (suc (p .rank)) else p
+
+-- Record `i` is taken out from a rank of the queue. "Those behind move up and keep their order."
+unfoldable pub takenOut : (i slot rank j : ℕ) → Position → Position
+takenOut i slot rank j p =
+    if eqb j i then noQueue else if inQueue slot p && ltb rank (p .rank) then positionAt slot (p .rank - 1) else p
+
+-- The record that stands at a rank of the queue, or how many records there are. The first stands at rank 0.
+abbrev pub recordAt : {A : Type 0} → (A → Position) → (slot rank : ℕ) → List A → ℕ
+recordAt position slot rank xs = firstThat (λ j x. standsAt slot rank (position x)) xs
+
+-- The records of the queue by rank: those at the ranks 0 to n-1, in order.
+unfoldable pub byRank : {A : Type 0} → (A → Position) → (slot n : ℕ) → List A → List ℕ
+byRank position slot n xs = map (λ r. recordAt position slot r xs) (range 0 n)
+
+-- The positions in the queue have the ranks 0 to n-1, each exactly once.
+unfoldable pub ranked : (slot n : ℕ) → List Position → Bool
+ranked slot n ps =
+    every (λ j p. inQueue slot p implies ltb (p .rank) n) ps
+    && every (λ i r. eqb (count (mapWithIndex (λ j p. standsAt slot r p) ps)) 1) (range 0 n)
+
+-- ---- For the code, on a table whose records have their position at byte `place`
+
+-- There is room behind the ranks of the queue for one more, in a byte.
+abbrev pub Room : (place slot : ℕ) → List (List ℕ) → Type 0
+Room place slot rs = (j : ℕ) → inQueue slot (positionIn place (getD rs j [])) ≡ true → positionIn place (getD rs j []) .rank < 255
+
+-- the record at rank 0 of the queue, or how many there are
+abbrev pub firstAt : (place slot : ℕ) → List (List ℕ) → ℕ
+firstAt place slot rs = recordAt (positionIn place) slot 0 rs

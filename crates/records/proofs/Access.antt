@@ -1,0 +1,64 @@
+-- Bytes of the tables and fields of the records, for the proofs of code that reads and writes bytes. Assumes nothing.
+use Prim.Native.Nat.{ℕ, zero, suc, _+_, _-_, _*_, _/_, _%_, _≤_, _<_}
+use native.Mathlib.Omega.{arith}
+use native.Mathlib.Nat.{not-suc-le-zero}
+use mathlib.Core.Path.{_≡_, refl, sym, ap, ap₂, _∙_, subst}
+use mathlib.Core.Bool.{Bool, true, false}
+use mathlib.Core.List.{List, [], _∷_, _++_, map}
+use lib.Count.{ones, onesIn, ones-step}
+use Rattle.ranks.proofs.Table.{length-records, at-records, byte-slice}
+use Rattle.ranks.specs.Lists.{mask, count}
+use Rattle.records.specs.Records.{Queue, Buffer, Task, State, queueAt, bufferAt, taskAt, freeQueue, freeBuffer, freshTask}
+use Rattle.ranks.specs.Table.{slice, byte, records}
+use Rattle.records.specs.Bytes.{decodeQueue, decodeBuffer, decodeTask, Tables, decode}
+use lib.ListN.{length, getD, take, drop, set}
+use lib.Seq.{drop-drop, getD-drop, getD-take, take-set-le, take-set-lt, drop-set-lt, drop-set-add}
+
+-- ---- Reading
+
+pub at-map : {A B : Type 0} (f : A → B) (l : List A) (i : ℕ) (a : A) (b : B) → i < length l → getD (map f l) i b ≡ f (getD l i a)
+at-map f [] i a b h = absurd (not-suc-le-zero h)
+at-map f (x ∷ l) zero a b h = refl
+at-map f (x ∷ l) (suc i) a b h = at-map f l i a b (omega arith)
+
+pub queue-at : (t : Tables) (i : ℕ) → i < 16 → queueAt (decode t) i ≡ decodeQueue (slice (i * 16) 16 (t .queues))
+unfolding decode
+queue-at t i h =
+    at-map decodeQueue (records 16 16 (t .queues)) i [] (freeQueue 0) (omega (arith, length-records 16 16 (t .queues)))
+    ∙ ap decodeQueue (at-records 16 16 (t .queues) i h)
+
+pub buffer-at : (t : Tables) (b : ℕ) → b < 64 → bufferAt (decode t) b ≡ decodeBuffer (slice (b * 128) 128 (t .pool))
+unfolding decode
+buffer-at t b h =
+    at-map decodeBuffer (records 64 128 (t .pool)) b [] freeBuffer (omega (arith, length-records 64 128 (t .pool)))
+    ∙ ap decodeBuffer (at-records 64 128 (t .pool) b h)
+
+pub task-at : (t : Tables) (k : ℕ) → k < 32 → taskAt (decode t) k ≡ decodeTask (slice (k * 136) 136 (t .tasks))
+unfolding decode
+task-at t k h =
+    at-map decodeTask (records 32 136 (t .tasks)) k [] (freshTask 1) (omega (arith, length-records 32 136 (t .tasks)))
+    ∙ ap decodeTask (at-records 32 136 (t .tasks) k h)
+
+-- two fields, as the code reads them
+pub task-state : (t : Tables) (k : ℕ) → k < 32 → taskAt (decode t) k .state ≡ getD (t .tasks) (k * 136 + 0) 0
+unfolding decodeTask
+task-state t k h = ap (λ (w : Task). w .state) (task-at t k h) ∙ byte-slice (k * 136) 136 (t .tasks) 0 (omega arith)
+
+pub task-rank : (t : Tables) (k : ℕ) → k < 32 → taskAt (decode t) k .position .rank ≡ getD (t .tasks) (k * 136 + 2) 0
+unfolding decodeTask
+task-rank t k h = ap (λ (w : Task). w .position .rank) (task-at t k h) ∙ byte-slice (k * 136) 136 (t .tasks) 2 (omega arith)
+
+-- ---- A mask and its ones
+
+-- the ones in a mask are as many as the tests that are passed
+pub ones-mask : (bs : List Bool) → ones (mask bs) ≡ count bs
+unfolding mask count ones onesIn
+ones-mask [] = refl
+ones-mask (true ∷ bs) =
+    let m : (1 + 2 * mask bs) % 2 ≡ 1 = omega arith in
+    let d : (1 + 2 * mask bs) / 2 ≡ mask bs = omega arith in
+    ones-step (1 + 2 * mask bs) ∙ ap₂ (λ (x y : ℕ). x + ones y) m d ∙ ap (λ (x : ℕ). 1 + x) (ones-mask bs) ∙ omega arith
+ones-mask (false ∷ bs) =
+    let m : (2 * mask bs) % 2 ≡ 0 = omega arith in
+    let d : (2 * mask bs) / 2 ≡ mask bs = omega arith in
+    ones-step (2 * mask bs) ∙ ap₂ (λ (x y : ℕ). x + ones y) m d ∙ ap (λ (x : ℕ). 0 + x) (ones-mask bs) ∙ omega arith

@@ -1,0 +1,182 @@
+-- A record is the record of its bytes, if its fields fit. Assumes nothing.
+use Prim.Native.Nat.{ℕ, zero, suc, _+_, _-_, _*_, _/_, _%_, _^_, _≤_, _<_}
+use native.Mathlib.Omega.{arith}
+use native.Mathlib.Nat.{not-suc-le-zero, div-add-mod', div-lt-iff-lt-mul, pow-suc}
+use mathlib.Core.Path.{_≡_, refl, sym, ap, ap₂, _∙_, subst}
+use mathlib.Core.List.{List, [], _∷_, _++_, map, flatten, append-assoc}
+use lib.ListN.{length, getD, take, drop, length-append, length-map}
+use lib.Seq.{take-all, take-at, drop-at, drop-append-add}
+use Rattle.ranks.specs.Position.{Position}
+use Rattle.records.specs.Records.{Queue, Buffer, Task, State}
+use Rattle.records.specs.Bytes.{fromLittleEndian, toLittleEndian, decodeQueue, encodeQueue, decodeBuffer, encodeBuffer, decodeTask, encodeTask, decode, encode, Tables}
+use Rattle.ranks.specs.Table.{slice, byte, records}
+
+-- ---- Numbers
+
+pub length-little-endian : (k n : ℕ) → length (toLittleEndian k n) ≡ k
+unfolding toLittleEndian
+length-little-endian zero n = refl
+length-little-endian (suc k) n = ap suc (length-little-endian k (n / 256))
+
+pub from-to-little-endian : (k n : ℕ) → n < 256 ^ k → fromLittleEndian (toLittleEndian k n) ≡ n
+unfolding fromLittleEndian toLittleEndian
+from-to-little-endian zero n h = omega arith
+from-to-little-endian (suc k) n h =
+    let lt : n < 256 ^ k * 256 = subst (λ (m : ℕ). n < m) (pow-suc 256 k) h in
+    let ih : fromLittleEndian (toLittleEndian k (n / 256)) ≡ n / 256 = from-to-little-endian k (n / 256) (div-lt-iff-lt-mul (omega arith) .1 lt) in
+    omega arith
+
+-- ---- Records
+
+pub record QueueEncodable (q : Queue) : Type 0 where
+  pub generation : q .generation < 65536
+  pub name : q .name < 4294967296
+  pub reserved : length (q .reserved) ≡ 4
+
+pub record BufferEncodable (m : Buffer) : Type 0 where
+  pub reserved : length (m .reserved) ≡ 5
+  pub bytes : length (m .bytes) ≡ 120
+
+pub record TaskEncodable (w : Task) : Type 0 where
+  pub reserved : length (w .reserved) ≡ 2
+  pub ticksLeft : w .ticksLeft < 4294967296
+  pub reservedAfter : length (w .reservedAfter) ≡ 4
+  pub receiveBuffer : length (w .receiveBuffer) ≡ 120
+
+pub length-queue : (q : Queue) → QueueEncodable q → length (encodeQueue q) ≡ 16
+unfolding encodeQueue toLittleEndian
+length-queue q f = let e = f .reserved in omega arith
+
+pub length-buffer : (m : Buffer) → BufferEncodable m → length (encodeBuffer m) ≡ 128
+unfolding encodeBuffer
+length-buffer m f =
+    let e = f .reserved in
+    let d = f .bytes in
+    let l = length-append (m .reserved) (m .bytes) in
+    omega arith
+
+pub length-task : (w : Task) → TaskEncodable w → length (encodeTask w) ≡ 136
+unfolding encodeTask
+length-task w f =
+    let a = f .reserved in
+    let b = f .reservedAfter in
+    let c = f .receiveBuffer in
+    let d = length-little-endian 4 (w .ticksLeft) in
+    let l₁ = length-append (w .reserved ++ toLittleEndian 4 (w .ticksLeft) ++ w .reservedAfter) (w .receiveBuffer) in
+    let l₂ = length-append (w .reserved ++ toLittleEndian 4 (w .ticksLeft)) (w .reservedAfter) in
+    let l₃ = length-append (w .reserved) (toLittleEndian 4 (w .ticksLeft)) in
+    omega arith
+
+-- ---- Reading what was written
+
+pub decode-encode-queue : (q : Queue) → QueueEncodable q → decodeQueue (encodeQueue q) ≡ q
+unfolding decodeQueue encodeQueue slice toLittleEndian
+decode-encode-queue q f = λ i. record {
+  live = q .live;
+  attributes = q .attributes;
+  limit = q .limit;
+  maxSize = q .maxSize;
+  generation = from-to-little-endian 2 (q .generation) (f .generation) i;
+  pending = q .pending;
+  waiters = q .waiters;
+  name = from-to-little-endian 4 (q .name) (f .name) i;
+  reserved = take-all 4 (q .reserved) (let e = f .reserved in omega arith) i;
+}
+
+pub decode-encode-buffer : (m : Buffer) → BufferEncodable m → decodeBuffer (encodeBuffer m) ≡ m
+unfolding decodeBuffer encodeBuffer slice
+decode-encode-buffer m f = λ i. record {
+  position = m .position;
+  messageLength = m .messageLength;
+  reserved = take-at (m .reserved) (m .bytes) 5 (f .reserved) i;
+  bytes = (ap (take 120) (drop-at (m .reserved) (m .bytes) 5 (f .reserved)) ∙ take-all 120 (m .bytes) (let e = f .bytes in omega arith)) i;
+}
+
+pub decode-encode-task : (w : Task) → TaskEncodable w → decodeTask (encodeTask w) ≡ w
+unfolding decodeTask encodeTask slice
+decode-encode-task w f = λ i. record {
+  state = w .state;
+  position = w .position;
+  priority = w .priority;
+  status = w .status;
+  messageLength = w .messageLength;
+  reserved = spare′ i;
+  ticksLeft = ticks′ i;
+  reservedAfter = after′ i;
+  receiveBuffer = bytes′ i;
+}
+  where
+    d : List ℕ
+    d = toLittleEndian 4 (w .ticksLeft)
+
+    rest : List ℕ
+    rest = w .reserved ++ d ++ w .reservedAfter ++ w .receiveBuffer
+
+    by-two : rest ≡ w .reserved ++ (d ++ (w .reservedAfter ++ w .receiveBuffer))
+    by-two = simp append-assoc
+
+    by-six : rest ≡ (w .reserved ++ d) ++ (w .reservedAfter ++ w .receiveBuffer)
+    by-six = append-assoc (w .reserved ++ d) (w .reservedAfter) (w .receiveBuffer)
+
+    six : length (w .reserved ++ d) ≡ 6
+    six = omega (arith, length-append (w .reserved) d, length-little-endian 4 (w .ticksLeft), f .reserved)
+
+    ten : length (w .reserved ++ d ++ w .reservedAfter) ≡ 10
+    ten = omega (arith, length-append (w .reserved ++ d) (w .reservedAfter), six, f .reservedAfter)
+
+    spare′ : take 2 rest ≡ w .reserved
+    spare′ = ap (take 2) by-two ∙ take-at (w .reserved) _ 2 (f .reserved)
+
+    ticks′ : fromLittleEndian (take 4 (drop 2 rest)) ≡ w .ticksLeft
+    ticks′ =
+        ap fromLittleEndian
+        (ap (λ (l : List ℕ). take 4 (drop 2 l)) by-two ∙ ap (take 4) (drop-at (w .reserved) _ 2 (f .reserved)) ∙ take-at d _ 4 (length-little-endian 4 (w .ticksLeft)))
+        ∙ from-to-little-endian 4 (w .ticksLeft) (f .ticksLeft)
+
+    after′ : take 4 (drop 6 rest) ≡ w .reservedAfter
+    after′ = ap (λ (l : List ℕ). take 4 (drop 6 l)) by-six ∙ ap (take 4) (drop-at (w .reserved ++ d) _ 6 six) ∙ take-at (w .reservedAfter) _ 4 (f .reservedAfter)
+
+    bytes′ : take 120 (drop 10 rest) ≡ w .receiveBuffer
+    bytes′ =
+        ap (take 120) (drop-at (w .reserved ++ d ++ w .reservedAfter) (w .receiveBuffer) 10 ten)
+        ∙ take-all 120 (w .receiveBuffer) (omega (arith, f .receiveBuffer))
+
+-- ---- Tables
+
+-- each record of a list has n bytes
+abbrev pub Each : {A : Type 0} → (A → Type 0) → List A → Type 0
+Each P [] = Unit {0}
+Each P (a ∷ l) = P a × Each P l
+
+pub each-of : {A : Type 0} (P : A → Type 0) (l : List A) (a : A) → ((i : ℕ) → i < length l → P (getD l i a)) → Each P l
+each-of P [] a h = tt
+each-of P (b ∷ l) a h = (h 0 (omega arith), each-of P l a (λ i lt. h (suc i) (omega arith)))
+
+module _ {A : Type 0} (write : A → List ℕ) (read : List ℕ → A) (n : ℕ) (Fit : A → Type 0) (size : (a : A) → Fit a → length (write a) ≡ n)
+    (back : (a : A) → Fit a → read (write a) ≡ a) where
+  pub decode-encode-records : (l : List A) → Each Fit l → map read (records (length l) n (flatten (map write l))) ≡ l
+  unfolding records flatten
+  decode-encode-records [] h = refl
+  decode-encode-records (a ∷ l) (f, fs) =
+      ap₂ {C = List A} (λ (x : A) (r : List A). x ∷ r) (ap read (take-at (write a) _ n (size a f)) ∙ back a f)
+      (ap (λ (b : List ℕ). map read (records (length l) n b)) (drop-at (write a) _ n (size a f)) ∙ decode-encode-records l fs)
+
+  pub length-records : (l : List A) → Each Fit l → length (flatten (map write l)) ≡ length l * n
+  unfolding flatten
+  length-records [] h = omega arith
+  length-records (a ∷ l) (f, fs) =
+      let ih : length (flatten (map write l)) ≡ length l * n = length-records l fs in
+      let e = length-append (write a) (flatten (map write l)) in
+      let z = size a f in
+      omega arith
+
+  pub record-at : (l : List A) → Each Fit l → (i : ℕ) (d : A) → i < length l → slice (i * n) n (flatten (map write l)) ≡ write (getD l i d)
+  unfolding flatten slice
+  record-at [] h i d lt = absurd (not-suc-le-zero lt)
+  record-at (a ∷ l) (f, fs) zero d lt =
+      ap (λ (k : ℕ). take n (drop k (write a ++ flatten (map write l)))) (let e : 0 * n ≡ 0 = omega arith in e) ∙ take-at (write a) _ n (size a f)
+  record-at (a ∷ l) (f, fs) (suc i) d lt =
+      ap (take n)
+      (ap (λ (k : ℕ). drop k (write a ++ flatten (map write l))) (let e : suc i * n ≡ length (write a) + i * n = let z = size a f in omega arith in e)
+      ∙ drop-append-add (write a) (flatten (map write l)) (i * n))
+      ∙ record-at l fs i d (omega arith)

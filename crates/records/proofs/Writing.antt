@@ -1,0 +1,213 @@
+-- Bytes written to the tables, and what becomes of the records. Assumes nothing.
+use Prim.Native.Nat.{ℕ, zero, suc, _+_, _-_, _*_, _/_, _%_, _≤_, _<_}
+use native.Mathlib.Omega.{arith}
+use mathlib.Core.Path.{_≡_, refl, sym, ap, ap₂, _∙_, subst}
+use mathlib.Core.Bool.{Bool, true, false}
+use mathlib.Core.Logic.{_⊎_, inl, inr, ⊎-elim}
+use mathlib.Core.List.{List, [], _∷_, _++_, map, append-assoc}
+use lib.Dec.{eqb}
+use lib.ListN.{length, getD, take, drop, set, replicate, length-set, length-map, length-drop, length-append}
+use lib.Seq.{ext-getD, getD-set-same, getD-set-other, drop-cons, drop-drop, take-all, take-at, drop-at, drop-length, length-take-le}
+use borrow.Author.Tests.{eq-eqb, ne-eqb}
+use Rattle.ranks.specs.Lists.{if_then_else_, mapWithIndex}
+use Rattle.ranks.specs.Position.{Position, noQueue}
+use Rattle.ranks.specs.Table.{slice, byte, records, spliced, positionIn, putPosition, moved}
+use Rattle.ranks.proofs.Tests.{same?}
+use Rattle.ranks.proofs.Lists.{at-mapped, length-mapped, mapped-cong, is-mapped}
+use Rattle.ranks.proofs.Table.{length-records, at-records, length-slice, before, records-put}
+use Rattle.records.specs.Records.{Queue, Buffer, Task, freeQueue, freeBuffer, freshTask}
+use Rattle.records.specs.Bytes.{fromLittleEndian, toLittleEndian, decodeQueue, encodeQueue, decodeBuffer, encodeBuffer, decodeTask, encodeTask, decodeQueues, decodePool, decodeTasks}
+use Rattle.records.specs.Changes.{atIndex, overwriteFront, moveBuffer, moveTask, messageBuffer, withMessage}
+use Rattle.records.proofs.DecodeEncode.{QueueEncodable, BufferEncodable, decode-encode-queue, length-queue, decode-encode-buffer, length-buffer}
+use Rattle.records.proofs.Access.{at-map}
+
+-- ---- Numbers of two and four bytes
+
+pub two : (r : List ℕ) (i : ℕ) → i + 2 ≤ length r → slice i 2 r ≡ byte i r ∷ byte (i + 1) r ∷ []
+unfolding slice
+two r i h =
+    ap (take 2) (drop-cons r i 0 (omega arith) ∙ ap (λ (l : List ℕ). byte i r ∷ l) (drop-cons r (suc i) 0 (omega arith)))
+    ∙ ap (λ (n : ℕ). byte i r ∷ byte n r ∷ []) (let e : suc i ≡ i + 1 = omega arith in e)
+
+pub four : (r : List ℕ) (i : ℕ) → i + 4 ≤ length r → slice i 4 r ≡ byte i r ∷ byte (i + 1) r ∷ byte (i + 2) r ∷ byte (i + 3) r ∷ []
+unfolding slice
+four r i h =
+    ap (take 4) (drop-cons r i 0 (omega arith)
+    ∙ ap (λ (l : List ℕ). byte i r ∷ l) (drop-cons r (suc i) 0 (omega arith)
+    ∙ ap (λ (l : List ℕ). byte (suc i) r ∷ l) (drop-cons r (suc (suc i)) 0 (omega arith)
+    ∙ ap (λ (l : List ℕ). byte (suc (suc i)) r ∷ l) (drop-cons r (suc (suc (suc i))) 0 (omega arith)))))
+    ∙ (λ k. byte i r ∷ byte ((let e : suc i ≡ i + 1 = omega arith in e) k) r ∷ byte ((let e : suc (suc i) ≡ i + 2 = omega arith in e) k) r
+    ∷ byte ((let e : suc (suc (suc i)) ≡ i + 3 = omega arith in e) k) r ∷ [])
+
+pub half-number : (r : List ℕ) (i : ℕ) → i + 2 ≤ length r → byte i r + 256 * byte (i + 1) r ≡ fromLittleEndian (slice i 2 r)
+unfolding fromLittleEndian
+half-number r i h = rw (two r i h) (omega arith)
+
+pub word-number : (r : List ℕ) (i : ℕ) → i + 4 ≤ length r
+    → byte i r + 256 * byte (i + 1) r + 65536 * byte (i + 2) r + 16777216 * byte (i + 3) r ≡ fromLittleEndian (slice i 4 r)
+unfolding fromLittleEndian
+word-number r i h = rw (four r i h) (omega arith)
+
+-- four bytes one by one
+pub all-four : (l : List ℕ) → length l ≡ 4 → l ≡ byte 0 l ∷ byte 1 l ∷ byte 2 l ∷ byte 3 l ∷ []
+unfolding slice
+all-four l e = sym (take-all 4 l (omega arith)) ∙ four l 0 (omega arith)
+
+-- ---- One record of a table
+
+-- a record changed, said of each record
+pub set-each : {A : Type 0} (l : List A) (i : ℕ) (f : A → A) (d : A) → i < length l → set l i (f (getD l i d)) ≡ mapWithIndex (atIndex i f) l
+set-each l i f d h = is-mapped (atIndex i f) l (set l i (f (getD l i d))) d d (length-set l i (f (getD l i d))) same
+  where
+    same : (j : ℕ) → j < length l → getD (set l i (f (getD l i d))) j d ≡ atIndex i f j (getD l j d)
+    same j lt =
+        ⊎-elim
+        (λ (e : j ≡ i). rw (e, eq-eqb i i refl) (getD-set-same l i (f (getD l i d)) d h))
+        (λ ne. rw (ne-eqb j i ne) (getD-set-other l i j (f (getD l i d)) d ne)) (same? j i)
+
+map-set : {A B : Type 0} (f : A → B) (l : List A) (i : ℕ) (a : A) → map f (set l i a) ≡ set (map f l) i (f a)
+map-set f [] i a = refl
+map-set f (x ∷ l) zero a = refl
+map-set f (x ∷ l) (suc i) a = ap (λ (t : List _). f x ∷ t) (map-set f l i a)
+
+module _ {A : Type 0} (read : List ℕ → A) (k n : ℕ) (t : List ℕ) (i : ℕ) (hi : i < k) (d : A) where
+  pub length-table : length (map read (records k n t)) ≡ k
+  length-table = length-map (records k n t) read ∙ length-records k n t
+
+  pub at-table : getD (map read (records k n t)) i d ≡ read (slice (i * n) n t)
+  at-table = at-map read (records k n t) i [] d (omega (arith, length-records k n t)) ∙ ap read (at-records k n t i hi)
+
+  -- record i is written over with bytes that read as `f` of it
+  pub table-put : (r : List ℕ) (f : A → A) → length r ≡ n → i * n + n ≤ length t → read r ≡ f (read (slice (i * n) n t))
+      → map read (records k n (spliced t (i * n) r)) ≡ mapWithIndex (atIndex i f) (map read (records k n t))
+  table-put r f e h same =
+      ap (map read) (records-put k n t r i e hi h) ∙ map-set read (records k n t) i r
+      ∙ ap (set (map read (records k n t)) i) (same ∙ ap f (sym at-table)) ∙ set-each (map read (records k n t)) i f d (omega (arith, length-table))
+
+-- ---- A rank step, said of the records
+
+map-each : {A B : Type 0} (f : A → B) (g : ℕ → A → A) (h : ℕ → B → B) (l : List A) (a : A) (b : B)
+    → ((i : ℕ) → i < length l → f (g i (getD l i a)) ≡ h i (f (getD l i a))) → map f (mapWithIndex g l) ≡ mapWithIndex h (map f l)
+map-each f g h l a b same =
+    is-mapped h (map f l) (map f (mapWithIndex g l)) b b (length-map (mapWithIndex g l) f ∙ length-mapped g l ∙ sym (length-map l f))
+    (λ i lt.
+    let lt₁ : i < length l = omega (arith, length-map l f) in
+    at-map f (mapWithIndex g l) i a b (omega (arith, length-mapped g l)) ∙ ap f (at-mapped g l i a a lt₁) ∙ same i lt₁ ∙ ap (h i) (sym (at-map f l i a b lt₁)))
+
+module _ {A : Type 0} (read : List ℕ → A) (pos : A → Position) (place : Position → A → A) (k n a : ℕ) (d : A)
+    (at-place : (r : List ℕ) → length r ≡ n → (p : Position) → read (putPosition a p r) ≡ place p (read r))
+    (at-pos : (r : List ℕ) → positionIn a r ≡ pos (read r)) where
+  pub table-moved : (F : ℕ → Position → Position) (t u : List ℕ) → length t ≡ k * n → records k n u ≡ mapWithIndex (moved a F) (records k n t)
+      → map read (records k n u) ≡ mapWithIndex (λ j x. place (F j (pos x)) x) (map read (records k n t))
+  unfolding moved
+  table-moved F t u h e =
+      ap (map read) e
+      ∙ map-each read (moved a F) (λ j x. place (F j (pos x)) x) (records k n t) [] d
+      (λ i lt.
+      let hi : i < k = omega (arith, length-records k n t) in
+      let r : List ℕ = getD (records k n t) i [] in
+      let l : length r ≡ n = ap length (at-records k n t i hi) ∙ length-slice (i * n) n t (omega (arith, before n i k hi)) in
+      at-place r l (F i (positionIn a r)) ∙ ap (λ (p : Position). place (F i p) (read r)) (at-pos r))
+
+buffer-placed : (r : List ℕ) → length r ≡ 128 → (p : Position) → decodeBuffer (putPosition 0 p r) ≡ moveBuffer p (decodeBuffer r)
+unfolding decodeBuffer slice
+buffer-placed [] e p = absurd (omega arith)
+buffer-placed (x ∷ []) e p = absurd (omega arith)
+buffer-placed (x ∷ y ∷ r) e p = refl
+
+task-placed : (r : List ℕ) → length r ≡ 136 → (p : Position) → decodeTask (putPosition 1 p r) ≡ moveTask p (decodeTask r)
+unfolding decodeTask slice
+task-placed [] e p = absurd (omega arith)
+task-placed (x ∷ []) e p = absurd (omega arith)
+task-placed (x ∷ y ∷ []) e p = absurd (omega arith)
+task-placed (x ∷ y ∷ z ∷ r) e p = refl
+
+pub pool-moved : (F : ℕ → Position → Position) (t u : List ℕ) → length t ≡ 8192 → records 64 128 u ≡ mapWithIndex (moved 0 F) (records 64 128 t)
+    → decodePool u ≡ mapWithIndex (λ j m. moveBuffer (F j (m .position)) m) (decodePool t)
+unfolding decodeBuffer
+pool-moved = table-moved decodeBuffer (λ m. m .position) moveBuffer 64 128 0 freeBuffer buffer-placed (λ r. refl)
+
+pub tasks-moved : (F : ℕ → Position → Position) (t u : List ℕ) → length t ≡ 4352 → records 32 136 u ≡ mapWithIndex (moved 1 F) (records 32 136 t)
+    → decodeTasks u ≡ mapWithIndex (λ j w. moveTask (F j (w .position)) w) (decodeTasks t)
+unfolding decodeTask
+tasks-moved = table-moved decodeTask (λ w. w .position) moveTask 32 136 1 (freshTask 1) task-placed (λ r. refl)
+
+-- ---- A message in a buffer, and in a task's record
+
+pub message-record : (p : Position) (m : List ℕ) → spliced (set (set (set (replicate 128 0) 0 (p .queue)) 1 (p .rank)) 2 (length m)) 8 m ≡ encodeBuffer (messageBuffer p m)
+unfolding spliced encodeBuffer
+message-record p m =
+    ap (λ (l : List ℕ). p .queue ∷ p .rank ∷ length m ∷ 0 ∷ 0 ∷ 0 ∷ 0 ∷ 0 ∷ (m ++ l))
+    (sym (drop-drop (length m) 8 (set (set (set (replicate 128 0) 0 (p .queue)) 1 (p .rank)) 2 (length m))))
+
+module _ (r m : List ℕ) (long : length r ≡ 136) (short : length m ≤ 120) where
+  abbrev head : List ℕ
+  head = 0 ∷ 0 ∷ 0 ∷ byte 3 r ∷ 0 ∷ length m ∷ byte 6 r ∷ byte 7 r ∷ 0 ∷ 0 ∷ 0 ∷ 0 ∷ []
+
+  abbrev got : List ℕ
+  got = spliced (spliced r 0 head) 16 m
+
+  abbrev kept : List ℕ
+  kept = take 4 (drop 12 r)
+
+  abbrev tail : List ℕ
+  tail = drop (16 + length m) (spliced r 0 head)
+
+  four-kept : length kept ≡ 4
+  four-kept = length-take-le 4 (drop 12 r) (omega (arith, length-drop 12 r))
+
+  tail-is : tail ≡ drop (length m) (drop 16 r)
+  unfolding spliced
+  tail-is = sym (drop-drop (length m) 16 (head ++ drop 12 r)) ∙ ap (drop (length m)) (drop-drop 4 12 r)
+
+  pub task-delivered : decodeTask got ≡ withMessage m (decodeTask r)
+  unfolding decodeTask spliced slice fromLittleEndian
+  task-delivered = λ i. record {
+    state = 0;
+    position = noQueue;
+    priority = byte 3 r;
+    status = 0;
+    messageLength = length m;
+    reserved = sym (two r 6 (omega arith)) i;
+    ticksLeft = 0;
+    reservedAfter = (ap (take 4) (append-assoc kept m tail) ∙ take-at kept (m ++ tail) 4 four-kept) i;
+    receiveBuffer =
+        (ap (λ (l : List ℕ). take 120 (drop 4 l)) (append-assoc kept m tail)
+        ∙ ap (take 120) (drop-at kept (m ++ tail) 4 four-kept ∙ ap (λ (l : List ℕ). m ++ l) tail-is)
+        ∙ take-all 120 (m ++ drop (length m) (drop 16 r))
+        (omega (arith, length-append m (drop (length m) (drop 16 r)), length-drop (length m) (drop 16 r), length-drop 16 r))
+        ∙ ap (λ (l : List ℕ). m ++ drop (length m) l) (sym (take-all 120 (drop 16 r) (omega (arith, length-drop 16 r))))) i;
+  }
+
+-- a part lent and handed back, as the borrow checker says it
+pub slice-back : (t r : List ℕ) (a e : ℕ) → a ≤ e → length r ≡ e - a → take a t ++ (r ++ drop (e - a) (drop a t)) ≡ spliced t a r
+unfolding spliced
+slice-back t r a e h l =
+    sym (append-assoc (take a t) r (drop (e - a) (drop a t)))
+    ∙ ap (λ (x : List ℕ). take a t ++ r ++ x) (drop-drop (e - a) a t ∙ ap (λ (n : ℕ). drop n t) (let q : a + (e - a) ≡ a + length r = omega arith in q))
+
+-- a task's record lent to code that does `f` to it
+pub tasks-lent : (t r : List ℕ) (i : ℕ) (f : Task → Task) → length t ≡ 4352 → i < 32 → length r ≡ i * 136 + 136 - i * 136
+    → decodeTask r ≡ f (decodeTask (take (i * 136 + 136 - i * 136) (drop (i * 136) t)))
+    → decodeTasks (take (i * 136) t ++ (r ++ drop (i * 136 + 136 - i * 136) (drop (i * 136) t))) ≡ mapWithIndex (atIndex i f) (decodeTasks t)
+unfolding slice
+tasks-lent t r i f l h e same =
+    let n : i * 136 + 136 - i * 136 ≡ 136 = omega arith in
+    ap decodeTasks (slice-back t r (i * 136) (i * 136 + 136) (omega arith) e)
+    ∙ table-put decodeTask 32 136 t i h (freshTask 1) r f (e ∙ n) (omega arith) (same ∙ ap (λ (k : ℕ). f (decodeTask (take k (drop (i * 136) t)))) n)
+
+pub queue-put : (t u : List ℕ) (i : ℕ) (q : Queue) → length t ≡ 256 → i < 16 → length (encodeQueue q) ≡ 16 → decodeQueue (encodeQueue q) ≡ q → u ≡ spliced t (i * 16) (encodeQueue q)
+    → decodeQueues u ≡ mapWithIndex (atIndex i (λ _. q)) (decodeQueues t)
+queue-put t u i q l h e back w = ap decodeQueues w ∙ table-put decodeQueue 16 16 t i h (freeQueue 0) (encodeQueue q) (λ _. q) e (omega arith) back
+
+pub message-put : (p : Position) (t u m : List ℕ) (b : ℕ) → length t ≡ 8192 → b < 64 → length m ≤ 120 → u ≡ spliced t (b * 128) (encodeBuffer (messageBuffer p m))
+    → decodePool u ≡ mapWithIndex (atIndex b (λ _. messageBuffer p m)) (decodePool t)
+message-put p t u m b l h short w =
+    ap decodePool w
+    ∙ table-put decodeBuffer 64 128 t b h freeBuffer (encodeBuffer (messageBuffer p m)) (λ _. messageBuffer p m)
+    (length-buffer (messageBuffer p m) fit) (omega arith) (decode-encode-buffer (messageBuffer p m) fit)
+  where
+    fit : BufferEncodable (messageBuffer p m)
+    fit =
+        let z : List ℕ = replicate 120 0 in
+        record { reserved = refl; bytes = omega (arith, length-append m (drop (length m) z), length-drop (length m) z) }

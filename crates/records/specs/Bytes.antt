@@ -1,0 +1,94 @@
+-- Document 01, "Tables": the bytes of each record and of the tables. "Fixed-size records, no header, little-endian."
+use Rattle.ranks.specs.Prelude.{ℕ, zero, suc, _+_, _*_, _/_, _%_, Bool, _&&_, List, [], _∷_, _++_, map, flatten, length, eqb}
+use Rattle.ranks.specs.Table.{slice, byte, records, positionIn}
+use Rattle.records.specs.Layout.{slotCount, queueWidth, bufferCount, bufferWidth, taskCount, taskWidth}
+use Rattle.records.specs.Records.{Queue, Buffer, Task, State}
+
+-- the number whose bytes these are, the lowest first
+unfoldable pub fromLittleEndian : List ℕ → ℕ
+fromLittleEndian [] = 0
+fromLittleEndian (b ∷ bs) = b + 256 * fromLittleEndian bs
+
+-- the lowest `k` bytes of a number, the lowest first
+unfoldable pub toLittleEndian : (k : ℕ) → ℕ → List ℕ
+toLittleEndian zero n = []
+toLittleEndian (suc k) n = n % 256 ∷ toLittleEndian k (n / 256)
+
+-- ---- Records
+
+unfoldable pub decodeQueue : List ℕ → Queue
+decodeQueue r =
+    record {
+      live = byte 0 r;
+      attributes = byte 1 r;
+      limit = byte 2 r;
+      maxSize = byte 3 r;
+      generation = fromLittleEndian (slice 4 2 r);
+      pending = byte 6 r;
+      waiters = byte 7 r;
+      name = fromLittleEndian (slice 8 4 r);
+      reserved = slice 12 4 r;
+    }
+
+unfoldable pub encodeQueue : Queue → List ℕ
+encodeQueue q =
+    q .live ∷ q .attributes ∷ q .limit ∷ q .maxSize ∷ toLittleEndian 2 (q .generation)
+    ++ (q .pending ∷ q .waiters ∷ toLittleEndian 4 (q .name)) ++ q .reserved
+
+unfoldable pub decodeBuffer : List ℕ → Buffer
+decodeBuffer r = record { position = positionIn 0 r; messageLength = byte 2 r; reserved = slice 3 5 r; bytes = slice 8 120 r }
+
+unfoldable pub encodeBuffer : Buffer → List ℕ
+encodeBuffer m = m .position .queue ∷ m .position .rank ∷ m .messageLength ∷ m .reserved ++ m .bytes
+
+unfoldable pub decodeTask : List ℕ → Task
+decodeTask r =
+    record {
+      state = byte 0 r;
+      position = positionIn 1 r;
+      priority = byte 3 r;
+      status = byte 4 r;
+      messageLength = byte 5 r;
+      reserved = slice 6 2 r;
+      ticksLeft = fromLittleEndian (slice 8 4 r);
+      reservedAfter = slice 12 4 r;
+      receiveBuffer = slice 16 120 r;
+    }
+
+unfoldable pub encodeTask : Task → List ℕ
+encodeTask w =
+    w .state ∷ w .position .queue ∷ w .position .rank ∷ w .priority ∷ w .status ∷ w .messageLength
+    ∷ w .reserved ++ toLittleEndian 4 (w .ticksLeft) ++ w .reservedAfter ++ w .receiveBuffer
+
+-- ---- Tables
+
+pub record Tables : Type 0 where
+  pub queues : List ℕ
+  pub pool : List ℕ
+  pub tasks : List ℕ
+
+abbrev pub decodeQueues : List ℕ → List Queue
+decodeQueues bytes = map decodeQueue (records slotCount queueWidth bytes)
+
+abbrev pub decodePool : List ℕ → List Buffer
+decodePool bytes = map decodeBuffer (records bufferCount bufferWidth bytes)
+
+abbrev pub decodeTasks : List ℕ → List Task
+decodeTasks bytes = map decodeTask (records taskCount taskWidth bytes)
+
+unfoldable pub decode : Tables → State
+decode t = record { queues = decodeQueues (t .queues); pool = decodePool (t .pool); tasks = decodeTasks (t .tasks) }
+
+unfoldable pub encode : State → Tables
+encode s =
+    record {
+      queues = flatten (map encodeQueue (s .queues));
+      pool = flatten (map encodeBuffer (s .pool));
+      tasks = flatten (map encodeTask (s .tasks));
+    }
+
+unfoldable pub rightLengths : Tables → Bool
+rightLengths t =
+    eqb (length (t .queues)) (slotCount * queueWidth)
+    && eqb (length (t .pool)) (bufferCount * bufferWidth)
+    && eqb (length (t .tasks)) (taskCount * taskWidth)

@@ -1,0 +1,95 @@
+-- Changes to one record.
+use Rattle.ranks.specs.Prelude.{ℕ, Bool, true, false, List, _++_, length, drop, replicate, eqb}
+use Rattle.ranks.specs.Lists.{if_then_else_}
+use Rattle.ranks.specs.Position.{Position, noQueue}
+use Rattle.records.specs.Records.{Queue, Buffer, Task}
+use Rattle.records.specs.Status.{SUCCESSFUL, WAITING}
+
+-- `f` is done to record `i` of a table, and nothing to the others
+abbrev pub atIndex : {A : Type 0} → ℕ → (A → A) → ℕ → A → A
+atIndex i f j a = if eqb j i then f a else a
+
+-- ---- Queues
+
+abbrev pub withCounts : (pending waiters : ℕ) → Queue → Queue
+withCounts pending waiters q =
+    record {
+      live = q .live;
+      attributes = q .attributes;
+      limit = q .limit;
+      maxSize = q .maxSize;
+      generation = q .generation;
+      pending = pending;
+      waiters = waiters;
+      name = q .name;
+      reserved = q .reserved;
+    }
+
+abbrev pub withPending : ℕ → Queue → Queue
+withPending n q = withCounts n (q .waiters) q
+
+abbrev pub withWaiters : ℕ → Queue → Queue
+withWaiters n q = withCounts (q .pending) n q
+
+-- ---- Buffers
+
+-- a message at the start of some bytes; "bytes beyond the length stay as they were"
+abbrev pub overwriteFront : (message bytes : List ℕ) → List ℕ
+overwriteFront message bytes = message ++ drop (length message) bytes
+
+abbrev pub moveBuffer : Position → Buffer → Buffer
+moveBuffer p m = record { position = p; messageLength = m .messageLength; reserved = m .reserved; bytes = m .bytes }
+
+-- a buffer that holds a message, with "zeros after its message"
+abbrev pub messageBuffer : Position → (message : List ℕ) → Buffer
+messageBuffer p message =
+    record { position = p; messageLength = length message; reserved = replicate 5 0; bytes = overwriteFront message (replicate 120 0) }
+
+-- ---- Tasks
+
+-- the fields of a wait, and the fields of what a task received
+abbrev pub withWait : (state : ℕ) → Position → (ticksLeft : ℕ) → Task → Task
+withWait state p ticksLeft w =
+    record {
+      state = state;
+      position = p;
+      priority = w .priority;
+      status = w .status;
+      messageLength = w .messageLength;
+      reserved = w .reserved;
+      ticksLeft = ticksLeft;
+      reservedAfter = w .reservedAfter;
+      receiveBuffer = w .receiveBuffer;
+    }
+
+abbrev pub withResult : (status messageLength : ℕ) (receiveBuffer : List ℕ) → Task → Task
+withResult status messageLength receiveBuffer w =
+    record {
+      state = w .state;
+      position = w .position;
+      priority = w .priority;
+      status = status;
+      messageLength = messageLength;
+      reserved = w .reserved;
+      ticksLeft = w .ticksLeft;
+      reservedAfter = w .reservedAfter;
+      receiveBuffer = receiveBuffer;
+    }
+
+abbrev pub moveTask : Position → Task → Task
+moveTask p w = withWait (w .state) p (w .ticksLeft) w
+
+abbrev pub withTicks : ℕ → Task → Task
+withTicks n w = withWait (w .state) (w .position) n w
+
+-- The task has left its queue and is ready. "Leaving a queue zeroes queue, rank and ticks."
+abbrev pub readyWith : (status : ℕ) → Task → Task
+readyWith status w = withWait 0 noQueue 0 (withResult status (w .messageLength) (w .receiveBuffer) w)
+
+-- The task is ready and has the message: "message copied, status 0, length set"; "bytes beyond the length stay as they were".
+abbrev pub withMessage : (message : List ℕ) → Task → Task
+withMessage message w = withWait 0 noQueue 0 (withResult SUCCESSFUL (length message) (overwriteFront message (w .receiveBuffer)) w)
+
+-- The task waits: "status 14, length 0, ticks left as given".
+abbrev pub waitingAt : Position → (ticks : ℕ) → Task → Task
+waitingAt p ticks w = withWait 1 p ticks (withResult WAITING 0 (w .receiveBuffer) w)

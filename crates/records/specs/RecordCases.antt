@@ -1,0 +1,92 @@
+-- Document 01, "Tables": a record of each kind, free and fresh records, and changed records, each with its bytes.
+use Rattle.ranks.specs.Prelude.{ℕ, List, [], _∷_, _++_, replicate}
+use Rattle.ranks.specs.Lists.{range}
+use Rattle.ranks.specs.Position.{positionAt}
+use Rattle.records.specs.Records.{Queue, Buffer, Task, freeQueue, freeBuffer, freshTask}
+use Rattle.records.specs.Bytes.{encodeQueue, encodeBuffer, encodeTask}
+use Rattle.records.specs.Changes.{withPending, withWaiters, moveBuffer, messageBuffer, withTicks, moveTask, readyWith, withMessage, waitingAt}
+
+-- ---- Every byte of these is one more than its place.
+
+unfoldable pub exampleQueue : Queue
+exampleQueue =
+    record {
+      live = 1;
+      attributes = 2;
+      limit = 3;
+      maxSize = 4;
+      generation = 0x0605;
+      pending = 7;
+      waiters = 8;
+      name = 0x0c0b0a09;
+      reserved = 13 ∷ 14 ∷ 15 ∷ 16 ∷ [];
+    }
+
+unfoldable pub queueBytes : List ℕ
+queueBytes = 1 ∷ 2 ∷ 3 ∷ 4 ∷ 5 ∷ 6 ∷ 7 ∷ 8 ∷ 9 ∷ 10 ∷ 11 ∷ 12 ∷ 13 ∷ 14 ∷ 15 ∷ 16 ∷ []
+
+unfoldable pub exampleBuffer : Buffer
+exampleBuffer =
+    record { position = record { queue = 1; rank = 2 }; messageLength = 3; reserved = 4 ∷ 5 ∷ 6 ∷ 7 ∷ 8 ∷ []; bytes = range 9 120 }
+
+unfoldable pub bufferBytes : List ℕ
+bufferBytes = 1 ∷ 2 ∷ 3 ∷ 4 ∷ 5 ∷ 6 ∷ 7 ∷ 8 ∷ range 9 120
+
+unfoldable pub exampleTask : Task
+exampleTask =
+    record {
+      state = 1;
+      position = record { queue = 2; rank = 3 };
+      priority = 4;
+      status = 5;
+      messageLength = 6;
+      reserved = 7 ∷ 8 ∷ [];
+      ticksLeft = 0x0c0b0a09;
+      reservedAfter = 13 ∷ 14 ∷ 15 ∷ 16 ∷ [];
+      receiveBuffer = range 17 120;
+    }
+
+unfoldable pub taskBytes : List ℕ
+taskBytes = 1 ∷ 2 ∷ 3 ∷ 4 ∷ 5 ∷ 6 ∷ 7 ∷ 8 ∷ 9 ∷ 10 ∷ 11 ∷ 12 ∷ 13 ∷ 14 ∷ 15 ∷ 16 ∷ range 17 120
+
+-- ---- Records and their bytes
+
+pub record RecordCase : Type 0 where
+  pub actual : List ℕ
+  pub expected : List ℕ
+
+infix 60 _are_
+abbrev _are_ : (actual expected : List ℕ) → RecordCase
+_are_ actual expected = record { actual = actual; expected = expected }
+
+abbrev zeros : ℕ → List ℕ
+zeros n = replicate n 0
+
+unfoldable pub recordCases : List RecordCase
+recordCases =
+    (encodeQueue exampleQueue are queueBytes)
+    ∷ (encodeBuffer exampleBuffer are bufferBytes)
+    ∷ (encodeTask exampleTask are taskBytes)
+    -- "A free queue record is zero but for its generation." "A free buffer is all zero."
+    ∷ (encodeQueue (freeQueue 0) are zeros 16)
+    ∷ (encodeQueue (freeQueue 0x0201) are (0 ∷ 0 ∷ 0 ∷ 0 ∷ 1 ∷ 2 ∷ zeros 10))
+    ∷ (encodeBuffer freeBuffer are zeros 128)
+    -- "Fresh tables are zero but for priorities of 1 to 255."
+    ∷ (encodeTask (freshTask 255) are (0 ∷ 0 ∷ 0 ∷ 255 ∷ zeros 132))
+    -- other counts
+    ∷ (encodeQueue (withPending 100 exampleQueue) are (1 ∷ 2 ∷ 3 ∷ 4 ∷ 5 ∷ 6 ∷ 100 ∷ range 8 9))
+    ∷ (encodeQueue (withWaiters 100 exampleQueue) are (1 ∷ 2 ∷ 3 ∷ 4 ∷ 5 ∷ 6 ∷ 7 ∷ 100 ∷ range 9 8))
+    -- a message of two bytes at rank 2 of the queue in slot 4, and a message that moves there
+    ∷ (encodeBuffer (messageBuffer (positionAt 4 2) (201 ∷ 202 ∷ [])) are (5 ∷ 2 ∷ 2 ∷ zeros 5 ++ (201 ∷ 202 ∷ zeros 118)))
+    ∷ (encodeBuffer (moveBuffer (positionAt 4 2) exampleBuffer) are (5 ∷ 2 ∷ range 3 126))
+    -- "message copied, status 0, length set"; queue, rank and ticks are 0; "delivered bytes beyond the length stay as they were"
+    ∷ (encodeTask (withMessage (201 ∷ 202 ∷ 203 ∷ []) exampleTask)
+    are (0 ∷ 0 ∷ 0 ∷ 4 ∷ 0 ∷ 3 ∷ 7 ∷ 8 ∷ 0 ∷ 0 ∷ 0 ∷ 0 ∷ 13 ∷ 14 ∷ 15 ∷ 16 ∷ 201 ∷ 202 ∷ 203 ∷ range 20 117))
+    -- a task that timed out
+    ∷ (encodeTask (readyWith 7 exampleTask) are (0 ∷ 0 ∷ 0 ∷ 4 ∷ 7 ∷ 6 ∷ 7 ∷ 8 ∷ 0 ∷ 0 ∷ 0 ∷ 0 ∷ range 13 124))
+    -- "the caller waits, status 14, length 0, ticks left as given"
+    ∷ (encodeTask (waitingAt (positionAt 4 2) 0x04030201 exampleTask) are (1 ∷ 5 ∷ 2 ∷ 4 ∷ 14 ∷ 0 ∷ 7 ∷ 8 ∷ 1 ∷ 2 ∷ 3 ∷ 4 ∷ range 13 124))
+    -- a waiter that moves, and one with other ticks
+    ∷ (encodeTask (moveTask (positionAt 4 2) exampleTask) are (1 ∷ 5 ∷ 2 ∷ range 4 133))
+    ∷ (encodeTask (withTicks 0x04030201 exampleTask) are (1 ∷ 2 ∷ 3 ∷ 4 ∷ 5 ∷ 6 ∷ 7 ∷ 8 ∷ 1 ∷ 2 ∷ 3 ∷ 4 ∷ range 13 124))
+    ∷ []

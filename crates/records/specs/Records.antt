@@ -1,0 +1,100 @@
+-- Document 01, "Tables": the three tables as lists of records, with a field for each field of a record. Reserved bytes are fields too, so
+-- that bytes and records correspond whatever the bytes are.
+use Rattle.ranks.specs.Prelude.{ℕ, _/_, _%_, Bool, true, false, List, getD, replicate, eqb}
+use Rattle.ranks.specs.Lists.{mapWithIndex, within}
+use Rattle.ranks.specs.Position.{Position, noQueue}
+use Rattle.records.specs.Layout.{slotCount, bufferCount}
+use Rattle.records.specs.declared.queue.QueueRecord.{QueueRecord}
+
+-- "0 live (0/1); 1 attributes (1 PRIORITY, 2 OPEN); 2 limit; 3 max size; 4-5 generation; 6 pending; 7 waiters; 8-11 name; 12-15 zero"
+abbrev pub Queue : Type 0
+Queue = QueueRecord
+
+-- "0 owner queue (slot+1, 0 free); 1 rank; 2 length; 3-7 zero; 8-127 data"
+pub record Buffer : Type 0 where
+  pub position : Position
+  pub messageLength : ℕ
+  pub reserved : List ℕ
+  pub bytes : List ℕ
+
+-- "0 state (0 ready, 1 waiting); 1 queue (slot+1, 0 none); 2 rank; 3 priority (smaller is more urgent); 4 status; 5 length; 6-7 zero;
+-- 8-11 ticks left (0 forever); 12-15 zero; 16-135 the task's receive buffer"
+pub record Task : Type 0 where
+  pub state : ℕ
+  pub position : Position
+  pub priority : ℕ
+  pub status : ℕ
+  pub messageLength : ℕ
+  pub reserved : List ℕ
+  pub ticksLeft : ℕ
+  pub reservedAfter : List ℕ
+  pub receiveBuffer : List ℕ
+
+pub record State : Type 0 where
+  pub queues : List Queue
+  pub pool : List Buffer
+  pub tasks : List Task
+
+-- ---- What a byte of a record says
+
+abbrev pub isLive : Queue → Bool
+isLive q = eqb (q .live) 1
+
+abbrev pub hasPriority : Queue → Bool
+hasPriority q = eqb (q .attributes % 2) 1
+
+abbrev pub isOpen : Queue → Bool
+isOpen q = eqb (q .attributes / 2 % 2) 1
+
+abbrev pub isWaiting : Task → Bool
+isWaiting w = eqb (w .state) 1
+
+-- "has length 1 to that queue's max size"; send, urgent and broadcast refuse "size 0 or above max"
+unfoldable pub sizeAllowed : Queue → (size : ℕ) → Bool
+sizeAllowed q size = within 1 (q .maxSize) size
+
+-- ---- Free records, and fresh tables
+
+-- "A free queue record is zero but for its generation."
+abbrev pub freeQueue : (generation : ℕ) → Queue
+freeQueue generation =
+    record
+    { live = 0; attributes = 0; limit = 0; maxSize = 0; generation = generation; pending = 0; waiters = 0; name = 0; reserved = replicate 4 0 }
+
+-- "A free buffer is all zero."
+abbrev pub freeBuffer : Buffer
+freeBuffer = record { position = noQueue; messageLength = 0; reserved = replicate 5 0; bytes = replicate 120 0 }
+
+abbrev pub freshTask : (priority : ℕ) → Task
+freshTask priority =
+    record {
+      state = 0;
+      position = noQueue;
+      priority = priority;
+      status = 0;
+      messageLength = 0;
+      reserved = replicate 2 0;
+      ticksLeft = 0;
+      reservedAfter = replicate 4 0;
+      receiveBuffer = replicate 120 0;
+    }
+
+-- "Fresh tables are zero but for priorities of 1 to 255."
+unfoldable pub fresh : (priorities : List ℕ) → State
+fresh priorities =
+    record {
+      queues = replicate slotCount (freeQueue 0);
+      pool = replicate bufferCount freeBuffer;
+      tasks = mapWithIndex (λ t priority. freshTask priority) priorities;
+    }
+
+-- ---- A record by its number. The default is for numbers past the end, which tables of the right lengths are never asked for.
+
+abbrev pub queueAt : State → (slot : ℕ) → Queue
+queueAt s slot = getD (s .queues) slot (freeQueue 0)
+
+abbrev pub bufferAt : State → (b : ℕ) → Buffer
+bufferAt s b = getD (s .pool) b freeBuffer
+
+abbrev pub taskAt : State → (t : ℕ) → Task
+taskAt s t = getD (s .tasks) t (freshTask 1)

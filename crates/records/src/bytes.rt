@@ -1,0 +1,49 @@
+// Numbers, lowest byte first, and parts of a table.
+ghost use mathlib.Core.Path.{_≡_};
+ghost use Prim.Native.Nat.{_+_, _<_, _≤_};
+ghost use lib.ListN.{length};
+ghost use Rattle.ranks.specs.Table.{slice, spliced};
+ghost use Rattle.records.specs.Bytes.{fromLittleEndian};
+
+fn wide16(b: u8) -> u16
+    ensures { λ r. ⌜ (r ≡ b) × (r < 256) ⌝ }
+{
+    b as u16
+}
+
+fn wide32(b: u8) -> u32
+    ensures { λ r. ⌜ (r ≡ b) × (r < 256) ⌝ }
+{
+    b as u32
+}
+
+// The number in two bytes from place at on.
+pub fn read_u16(t: &[u8], at: usize) -> u16
+    requires { ⌜ at + 2 ≤ length (now t) ⌝ }
+    ensures { λ r. ⌜ r ≡ fromLittleEndian (slice at 2 (now (t .entry))) ⌝ }
+{
+    wide16(t[at]) + 256 * wide16(t[at + 1])
+}
+
+// The number in four bytes from place at on.
+pub fn read_u32(t: &[u8], at: usize) -> u32
+    requires { ⌜ at + 4 ≤ length (now t) ⌝ }
+    ensures { λ r. ⌜ r ≡ fromLittleEndian (slice at 4 (now (t .entry))) ⌝ }
+{
+    wide32(t[at])
+        + 256 * wide32(t[at + 1])
+        + 65536 * wide32(t[at + 2])
+        + 16777216 * wide32(t[at + 3])
+}
+
+// Copies src into t from place i on.
+pub fn copy_into(t: &mut [u8], i: usize, src: &[u8])
+    requires { ⌜ i + length (now src) ≤ length (now t) ⌝ }
+    ensures { λ _. ⌜ now (t .exit) ≡ spliced (now (t .entry)) i (now (src .entry)) ⌝ }
+{
+    let mut k = 0;
+    while k < src.len() {
+        t[i + k] = src[k];
+        k += 1;
+    }
+}

@@ -1,0 +1,61 @@
+-- What the directives ask of the tables, and how a task leaves a queue.
+use Rattle.ranks.specs.Prelude.{ℕ, _-_, Bool, true, false, _||_, not, List, [], _∷_, eqb, leb, ltb}
+use Rattle.ranks.specs.Lists.{if_then_else_, mapWithIndex, all, firstThat}
+use Rattle.ranks.specs.Position.{inQueue}
+use Rattle.ranks.specs.Steps.{takenOut, recordAt}
+use Rattle.records.specs.Split.{shareOfSlot, shareOfTask}
+use Rattle.records.specs.Layout.{slotOf, generationOf, bufferCount, taskCount}
+use Rattle.records.specs.Records.{Queue, Buffer, Task, State, isLive, isOpen, freeBuffer, queueAt}
+use Rattle.records.specs.Changes.{atIndex, withWaiters, moveTask}
+
+-- "An id is usable if its slot (id mod 16) is live, id div 16 is its generation, and the slot is in the caller's share or OPEN."
+-- The queue in the id's slot is `q`.
+abbrev pub usableQueue : Queue → (caller id : ℕ) → Bool
+usableQueue q caller id =
+    all
+    (isLive q
+    ∷ eqb (generationOf id) (q .generation)
+    ∷ (eqb (shareOfSlot (slotOf id)) (shareOfTask caller) || isOpen q)
+    ∷ [])
+
+unfoldable pub usable : State → (caller id : ℕ) → Bool
+usable s caller id = usableQueue (queueAt s (slotOf id)) caller id
+
+-- the slot is of another share than the caller
+unfoldable pub isForeign : (caller slot : ℕ) → Bool
+isForeign caller slot = not (eqb (shareOfSlot slot) (shareOfTask caller))
+
+-- the waiter at rank 0 of the queue in a slot, or 32
+unfoldable pub firstWaiter : State → (slot : ℕ) → ℕ
+firstWaiter s slot = recordAt (λ w. w .position) slot 0 (s .tasks)
+
+abbrev pub hasWaiter : State → (slot : ℕ) → Bool
+hasWaiter s slot = ltb (firstWaiter s slot) taskCount
+
+-- the message at rank 0 of the queue in a slot, or 64
+unfoldable pub firstMessage : State → (slot : ℕ) → ℕ
+firstMessage s slot = recordAt (λ m. m .position) slot 0 (s .pool)
+
+abbrev pub hasMessage : State → (slot : ℕ) → Bool
+hasMessage s slot = ltb (firstMessage s slot) bufferCount
+
+-- which tasks wait in the queue of a slot
+unfoldable pub waitersOf : State → (slot : ℕ) → List Bool
+waitersOf s slot = mapWithIndex (λ t w. inQueue slot (w .position)) (s .tasks)
+
+-- Task `t` leaves the queue of the slot, where it stands at the rank, as `f` says of its record; those behind move up.
+unfoldable pub leave : State → (t slot rank : ℕ) → (Task → Task) → State
+leave s t slot rank f =
+    record {
+      queues = mapWithIndex (atIndex slot (λ q. withWaiters (q .waiters - 1) q)) (s .queues);
+      pool = s .pool;
+      tasks = mapWithIndex (λ j w. if eqb j t then f w else moveTask (takenOut t slot rank j (w .position)) w) (s .tasks);
+    }
+
+-- Every task that waits in the queue of the slot leaves it, as `f` says of its record.
+unfoldable pub withoutWaiters : State → (slot : ℕ) → (Task → Task) → List Task
+withoutWaiters s slot f = mapWithIndex (λ t w. if inQueue slot (w .position) then f w else w) (s .tasks)
+
+-- The buffers of the queue in the slot are zeroed.
+unfoldable pub withoutMessages : State → (slot : ℕ) → List Buffer
+withoutMessages s slot = mapWithIndex (λ b m. if inQueue slot (m .position) then freeBuffer else m) (s .pool)

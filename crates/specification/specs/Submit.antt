@@ -1,0 +1,60 @@
+-- What send and urgent share. Document 01: "2, 3 (size 0 or above max), then the waiter at rank 0 if any [...]. Else 5 if full, 13, else the
+-- lowest free buffer of the owner's share".
+use Rattle.ranks.specs.Prelude.{ℕ, suc, Bool, true, false, _&&_, not, List, [], _∷_, length, eqb, leb, ltb}
+use Rattle.ranks.specs.Lists.{if_then_else_, mapWithIndex, firstThat, mask}
+use Rattle.ranks.specs.Position.{positionAt}
+use Rattle.ranks.specs.Steps.{inserted}
+use Rattle.records.specs.Split.{shareOfSlot, shareOfBuffer}
+use Rattle.records.specs.Layout.{bufferCount}
+use Rattle.records.specs.Records.{Queue, Buffer, State, sizeAllowed, queueAt}
+use Rattle.records.specs.Changes.{atIndex, withPending, moveBuffer, messageBuffer, withMessage}
+use Rattle.records.specs.Status.{SUCCESSFUL, INVALID-SIZE, TOO-MANY, NO-BUFFER}
+use Rattle.specification.specs.Answer.{Outcome, outcome, Refusal, _⇒_}
+use Rattle.specification.specs.Lookup.{firstWaiter, hasWaiter, leave}
+
+-- "a message's size is the length of the bytes lent"
+abbrev pub badSize : State → (slot : ℕ) (message : List ℕ) → Bool
+badSize s slot message = not (sizeAllowed (queueAt s slot) (length message))
+
+abbrev pub isFull : Queue → Bool
+isFull q = leb (q .limit) (q .pending)
+
+-- buffer `b` is free and of the share
+abbrev pub isFreeOf : (share b : ℕ) → Buffer → Bool
+isFreeOf share b m = eqb (m .position .queue) 0 && eqb (shareOfBuffer b) share
+
+-- "the lowest free buffer of the owner's share", or 64
+unfoldable pub freeBufferOf : State → (share : ℕ) → ℕ
+freeBufferOf s share = firstThat (isFreeOf share) (s .pool)
+
+-- "2, 3, then the waiter at rank 0 if any. [...] Else 5 if full, 13"
+unfoldable pub refusals : State → (slot : ℕ) (message : List ℕ) → List Refusal
+refusals s slot message =
+    (badSize s slot message ⇒ INVALID-SIZE)
+    ∷ (not (hasWaiter s slot) && isFull (queueAt s slot) ⇒ TOO-MANY)
+    ∷ (not (hasWaiter s slot) && leb bufferCount (freeBufferOf s (shareOfSlot slot)) ⇒ NO-BUFFER)
+    ∷ []
+
+-- Waiter `t`: "message copied, status 0, length set, woken".
+unfoldable pub delivered : State → (t slot : ℕ) (message : List ℕ) → Outcome State
+delivered s t slot message =
+    outcome SUCCESSFUL 0 (mask (mapWithIndex (λ j w. eqb j t) (s .tasks))) (leave s t slot 0 (withMessage message))
+
+-- The message is put into buffer `b`, at a rank of the queue.
+unfoldable pub enqueued : State → (b slot rank : ℕ) (message : List ℕ) → Outcome State
+enqueued s b slot rank message =
+    outcome SUCCESSFUL 0 0
+    (record {
+      queues = mapWithIndex (atIndex slot (λ q. withPending (suc (q .pending)) q)) (s .queues);
+      pool =
+          mapWithIndex
+          (λ j m. if eqb j b then messageBuffer (positionAt slot rank) message else moveBuffer (inserted b slot rank j (m .position)) m)
+          (s .pool);
+      tasks = s .tasks;
+    })
+
+unfoldable pub effect : State → (slot rank : ℕ) (message : List ℕ) → Outcome State
+effect s slot rank message =
+    if hasWaiter s slot
+    then delivered s (firstWaiter s slot) slot message
+    else enqueued s (freeBufferOf s (shareOfSlot slot)) slot rank message

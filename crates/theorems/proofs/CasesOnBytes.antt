@@ -1,0 +1,96 @@
+-- The cases and the images hold on bytes: what was computed on records is what a run on the byte tables comes to. Assumes nothing.
+use Prim.Native.Nat.{ℕ, _+_, _-_, _*_, _≤_, _<_}
+use native.Mathlib.Omega.{arith}
+use mathlib.Core.Path.{_≡_, refl, sym, ap, ap₂, _∙_, subst}
+use mathlib.Core.Bool.{Bool, true, false, _&&_, false≢true}
+use mathlib.Core.List.{List, [], _∷_, map}
+use lib.Dec.{ltb, leb}
+use lib.ListN.{length, take, drop}
+use lib.Seq.{take-take, drop-drop}
+use borrow.Author.Tests.{ltb-true, leb-true}
+use Rattle.ranks.specs.Lists.{all}
+use Rattle.ranks.specs.Table.{slice}
+use Rattle.records.specs.Records.{State, queueAt, bufferAt, taskAt, fresh}
+use Rattle.records.specs.Bytes.{Tables, encode}
+use Rattle.specification.specs.Call.{Call, argumentsInRange}
+use Rattle.specification.specs.Run.{Event, Run, run, goodPriorities, freshTables}
+use Rattle.specification.specs.Cases.{TableName, queueTable, poolTable, taskTable, Field, Case, Observation, callsOf, widthOf, fieldBytes, observed, expected, cases}
+use Rattle.theorems.specs.CasesHold.{CasesHold}
+use Rattle.ranks.proofs.Lists.{holds}
+use Rattle.ranks.proofs.Table.{drop-take}
+use Rattle.ranks.proofs.Tests.{both}
+use Rattle.specification.proofs.CasesOnRecords.{recordBytes, fieldOnRecords, observedFrom, observedOnRecords, countOf, fieldInRange, caseInRange, cases-on-records, cases-in-range}
+use Rattle.specification.proofs.OnRecords.{eventsOnRecords, stateAfter}
+use Rattle.specification.proofs.SoundFacts.{Sized, SoundFacts}
+use Rattle.theorems.proofs.Encodable.{Encodable}
+use Rattle.theorems.proofs.Fresh.{priorities, fresh-sound}
+use Rattle.theorems.proofs.Noninterference.{fresh-fits}
+use Rattle.theorems.proofs.OnBytes.{queue-bytes, buffer-bytes, task-bytes, RunOnRecords, run-on-records}
+
+-- two functions that agree where a test is passed agree on a list of which all pass
+pub map-where : {A B : Type 0} (test : A → Bool) (f g : A → B) → ((a : A) → test a ≡ true → f a ≡ g a)
+    → (l : List A) → all (map test l) ≡ true → map f l ≡ map g l
+unfolding all
+map-where test f g h [] e = refl
+map-where {B = B} test f g h (a ∷ l) e = go (test a) refl e (map-where test f g h l)
+  where
+    go : (b : Bool) → test a ≡ b → (elim b [ true ↦ all (map test l) | false ↦ false ]) ≡ true
+        → (all (map test l) ≡ true → map f l ≡ map g l) → map f (a ∷ l) ≡ map g (a ∷ l)
+    go true p e ih = ap₂ {C = List B} (λ x xs. x ∷ xs) (h a p) (ih e)
+    go false p e ih = absurd (false≢true e)
+
+-- ---- Bytes of one record
+
+-- a part of a part
+slice-within : (i w place n : ℕ) (l : List ℕ) → place + n ≤ w → slice (i + place) n l ≡ slice place n (slice i w l)
+unfolding slice
+slice-within i w place n l h =
+    let e : place + (w - place) ≡ w = omega arith in
+    sym
+    (ap (λ (k : ℕ). take n (drop place (take k (drop i l)))) (sym e)
+    ∙ ap (take n) (drop-take place (w - place) (drop i l))
+    ∙ take-take n (w - place) (drop place (drop i l)) (omega arith)
+    ∙ ap (take n) (drop-drop place i l))
+
+module _ (s : State) (z : Sized s) (f : Encodable s) where
+  pub field-bytes : (x : Field) → fieldInRange x ≡ true → fieldBytes (encode s) x ≡ fieldOnRecords s x
+  unfolding fieldBytes fieldOnRecords recordBytes fieldInRange
+  field-bytes x e = go (x .table) (both _ _ e)
+    where
+      n : ℕ
+      n = length (x .bytes)
+
+      go : (t : TableName) → (ltb (x .number) (countOf t) ≡ true) × (leb (x .place + n) (widthOf t) ≡ true)
+          → slice (x .number * widthOf t + x .place) n (Rattle.specification.specs.Cases.tableOf (encode s) t) ≡ slice (x .place) n (recordBytes s t (x .number))
+      go queueTable (h, k) = slice-within _ 16 (x .place) n _ (leb-true _ _ k) ∙ ap (slice (x .place) n) (queue-bytes s z f (x .number) (ltb-true _ _ h))
+      go poolTable (h, k) = slice-within _ 128 (x .place) n _ (leb-true _ _ k) ∙ ap (slice (x .place) n) (buffer-bytes s z f (x .number) (ltb-true _ _ h))
+      go taskTable (h, k) = slice-within _ 136 (x .place) n _ (leb-true _ _ k) ∙ ap (slice (x .place) n) (task-bytes s z f (x .number) (ltb-true _ _ h))
+
+-- ---- What is seen of a run from records that fit their bytes
+
+abbrev pub seenFrom : Tables → List Event → List Field → Observation
+seenFrom t events fields =
+    let r = run t (map (λ e. e .call) events) in
+    record { events = r .events; bytes = map (fieldBytes (r .tables)) fields }
+
+pub seen-from : (s : State) → SoundFacts s → Encodable s → (events : List Event) (fields : List Field)
+    → all (map argumentsInRange (map (λ (e : Event). e .call) events)) ≡ true → all (map fieldInRange fields) ≡ true
+    → seenFrom (encode s) events fields ≡ observedFrom s events fields
+unfolding observedFrom
+seen-from s g f events fields args within =
+    let on = run-on-records (map (λ (e : Event). e .call) events) s g f args in
+    λ i. record {
+      events = on .events i;
+      bytes = (ap (λ (t : Tables). map (fieldBytes t) fields) (on .tables) ∙ map-where fieldInRange _ _ (field-bytes _ (on .sound .sized) (on .fits)) fields within) i;
+    }
+
+-- ---- The cases
+
+case-on-bytes : (k : Case) → caseInRange k ≡ true → observed k ≡ observedOnRecords k
+unfolding caseInRange observed observedOnRecords freshTables
+case-on-bytes k e =
+    let (ps, (args, (fields, _))) = holds _ e in
+    seen-from (fresh (k .priorities)) (fresh-sound (k .priorities) (priorities (k .priorities) ps)) (fresh-fits (k .priorities) ps) (k .events) (k .fields) args fields
+
+pub cases-hold : CasesHold
+cases-hold = map-where caseInRange observed observedOnRecords case-on-bytes cases cases-in-range ∙ cases-on-records

@@ -1,0 +1,158 @@
+-- The messages and waiters of a queue, and the mask of some of its waiters. Assumes nothing.
+use Prim.Native.Nat.{ℕ, zero, suc, _<_}
+use native.Mathlib.Nat.{le-of-suc-le-suc, not-suc-le-zero}
+use native.Mathlib.Omega.{arith}
+use mathlib.Core.Path.{_≡_, refl, sym, ap, ap₂, _∙_, subst}
+use mathlib.Core.Bool.{Bool, true, false, false≢true}
+use mathlib.Core.Logic.{_⊎_, inl, inr}
+use mathlib.Core.List.{List, [], _∷_, map}
+use lib.Dec.{eqb}
+use lib.ListN.{length, getD, length-map}
+use borrow.Author.Tests.{eqb-true, eqb-false, eq-eqb}
+use Rattle.ranks.specs.Lists.{mapWithIndex, mask, range}
+use Rattle.ranks.specs.Position.{Position, inQueue}
+use Rattle.ranks.specs.Steps.{byRank}
+use Rattle.records.specs.Changes.{atIndex}
+use Rattle.records.specs.Records.{Queue, Buffer, Task, State, queueAt, bufferAt, taskAt, freeBuffer, freshTask}
+use Rattle.specification.specs.Answer.{Outcome}
+use Rattle.specification.specs.Lookup.{waitersOf}
+use Rattle.theorems.specs.QueueLists.{Contents, Effect, messageIn, contents, isIn, maskOf}
+use Rattle.ranks.proofs.Tests.{or, or-left, or-right}
+use Rattle.ranks.proofs.Ranks.{Agree}
+use Rattle.ranks.proofs.ByRank.{RankedTable, by-rank-listed, length-by-rank, in-list, same-list}
+use Rattle.specification.proofs.SoundFacts.{Sized, SoundFacts}
+use Rattle.theorems.proofs.FieldsInRange.{buffers-ranked, tasks-ranked}
+use Rattle.theorems.proofs.CountChange
+use Rattle.theorems.proofs.ListSteps.{by-number, map-by-rank}
+
+-- ---- Queues that are as they were
+
+module _ {s : State} (g : SoundFacts s) (i : ℕ) (i< : i < 16) (s′ : State) (z′ : Sized s′) where
+  -- the queue's buffers are where they were, and hold what they held
+  pub same-messages : queueAt s′ i .pending ≡ queueAt s i .pending → ((j : ℕ) → j < 64 → Agree i (bufferAt s j .position) (bufferAt s′ j .position))
+      → ((j : ℕ) → j < 64 → bufferAt s j .position .queue ≡ suc i → messageIn (bufferAt s′ j) ≡ messageIn (bufferAt s j))
+      → contents s′ i .messages ≡ contents s i .messages
+  unfolding contents
+  same-messages e ag held =
+      ap (λ (n : ℕ). map (λ b. messageIn (bufferAt s′ b)) (byRank (λ (m : Buffer). m .position) i n (s′ .pool))) e
+      ∙ ap (λ (l : List ℕ). map (λ b. messageIn (bufferAt s′ b)) l) (same-list (buffers-ranked s g i i<) (s′ .pool) (z′ .pool) ag)
+      ∙ map-by-rank (buffers-ranked s g i i<) _ _ held
+
+  pub same-waiters : queueAt s′ i .waiters ≡ queueAt s i .waiters → ((j : ℕ) → j < 32 → Agree i (taskAt s j .position) (taskAt s′ j .position))
+      → contents s′ i .waiters ≡ contents s i .waiters
+  unfolding contents
+  same-waiters e ag =
+      ap (λ (n : ℕ). byRank (λ (w : Task). w .position) i n (s′ .tasks)) e ∙ same-list (tasks-ranked s g i i<) (s′ .tasks) (z′ .tasks) ag
+
+module _ (s s′ : State) (i : ℕ) where
+  pub same-pool : s′ .pool ≡ s .pool → queueAt s′ i .pending ≡ queueAt s i .pending → contents s′ i .messages ≡ contents s i .messages
+  unfolding contents
+  same-pool p e =
+      ap₂ (λ (n : ℕ) (bs : List Buffer). map (λ b. messageIn (getD bs b freeBuffer)) (byRank (λ (m : Buffer). m .position) i n bs)) e p
+
+  pub same-tasks : s′ .tasks ≡ s .tasks → queueAt s′ i .waiters ≡ queueAt s i .waiters → contents s′ i .waiters ≡ contents s i .waiters
+  unfolding contents
+  same-tasks p e = ap₂ (λ (n : ℕ) (ws : List Task). byRank (λ (w : Task). w .position) i n ws) e p
+
+-- The counts of one queue change, and the table of messages, or of waiters, does not.
+module _ {s : State} (g : SoundFacts s) (slot : ℕ) (slot< : slot < 16) (s′ : State) (z′ : Sized s′) (h : Queue → Queue)
+    (e : s′ .queues ≡ mapWithIndex (atIndex slot h) (s .queues)) where
+  pub kept-messages : s′ .pool ≡ s .pool → h (queueAt s slot) .pending ≡ queueAt s slot .pending → (i : ℕ) → i < 16
+      → contents s′ i .messages ≡ contents s i .messages
+  kept-messages p c i i< =
+      same-pool s s′ i p (CountChange.of-each s s′ g z′ slot slot< h e (λ i q. q .pending ≡ queueAt s i .pending) c (λ i h. refl) i i<)
+
+  pub kept-waiters : s′ .tasks ≡ s .tasks → h (queueAt s slot) .waiters ≡ queueAt s slot .waiters → (i : ℕ) → i < 16
+      → contents s′ i .waiters ≡ contents s i .waiters
+  kept-waiters p c i i< =
+      same-tasks s s′ i p (CountChange.of-each s s′ g z′ slot slot< h e (λ i q. q .waiters ≡ queueAt s i .waiters) c (λ i h. refl) i i<)
+
+-- both lists are equal
+pub both-lists : {q q′ : Contents} → q .messages ≡ q′ .messages → q .waiters ≡ q′ .waiters → q ≡ q′
+both-lists p e = λ k. record { messages = p k; waiters = e k }
+
+-- nothing is in a queue of count 0
+pub no-messages : (s : State) (i : ℕ) → queueAt s i .pending ≡ 0 → contents s i .messages ≡ []
+unfolding contents byRank range
+no-messages s i e = rw e
+
+pub no-waiters : (s : State) (i : ℕ) → queueAt s i .waiters ≡ 0 → contents s i .waiters ≡ []
+unfolding contents byRank range
+no-waiters s i e = rw e
+
+-- ---- Entries of a list
+
+pub in-some : (l : List ℕ) (k d t : ℕ) → k < length l → getD l k d ≡ t → isIn t l ≡ true
+unfolding isIn
+in-some [] k d t h e = absurd (not-suc-le-zero h)
+in-some (x ∷ l) zero d t h e = or-left (isIn t l) (eq-eqb t x (sym e))
+in-some (x ∷ l) (suc k) d t h e = or-right (eqb t x) (in-some l k d t (le-of-suc-le-suc h) e)
+
+some-in : (l : List ℕ) (t : ℕ) → isIn t l ≡ true → (k : ℕ) × (k < length l) × (getD l k 0 ≡ t)
+unfolding isIn
+some-in [] t e = absurd (false≢true e)
+some-in (x ∷ l) t e = go (or (eqb t x) (isIn t l) e) (some-in l t)
+  where
+    go : (eqb t x ≡ true) ⊎ (isIn t l ≡ true) → (isIn t l ≡ true → (k : ℕ) × (k < length l) × (getD l k 0 ≡ t))
+        → (k : ℕ) × (k < length (x ∷ l)) × (getD (x ∷ l) k 0 ≡ t)
+    go (inl e) ih = (0, omega arith, sym (eqb-true t x e))
+    go (inr e) ih = let (k, h, q) = ih e in (suc k, omega arith, q)
+
+-- the entries of a queue's list are the records in the queue
+pub in-by-rank : {A : Type 0} {position : A → Position} {a : A} {N slot n : ℕ} {xs : List A} → RankedTable position a N slot n xs → (t : ℕ) → t < N
+    → inQueue slot (position (getD xs t a)) ≡ isIn t (byRank position slot n xs)
+in-by-rank {A} {position} {a} {N} {slot} {n} {xs} table t h = go (inQueue slot (position (getD xs t a))) (isIn t (byRank position slot n xs)) refl refl
+  where
+    go : (b c : Bool) → inQueue slot (position (getD xs t a)) ≡ b → isIn t (byRank position slot n xs) ≡ c → b ≡ c
+    go true true e f = refl
+    go false false e f = refl
+    go true false e f =
+        let (k, lt, q) = in-list table 0 t h (eqb-true _ _ e) in
+        sym (in-some (byRank position slot n xs) k 0 t (omega (arith, length-by-rank table)) q) ∙ f
+    go false true e f =
+        let (k, lt, q) = some-in (byRank position slot n xs) t f in
+        let stands = by-rank-listed table .entry k 0 (omega (arith, length-by-rank table)) in
+        absurd (eqb-false _ _ e (subst (λ (j : ℕ). position (getD xs j a) .queue ≡ suc slot) q (stands .1)))
+
+-- ---- Masks
+
+pub mask-of : {A : Type 0} (f : ℕ → A → Bool) (xs : List A) (a : A) (l : List ℕ) → length xs ≡ 32 → ((k : ℕ) → k < 32 → f k (getD xs k a) ≡ isIn k l)
+    → mask (mapWithIndex f xs) ≡ maskOf l
+mask-of f xs a l long same = ap mask (by-number f (λ t. isIn t l) xs a false 32 long same)
+
+pub mask-none : 0 ≡ maskOf []
+unfolding mask range isIn
+mask-none = refl
+
+-- ---- What an operation does
+
+-- the outcome r of an operation on the queue in the slot: the queue afterwards, the value, the tasks woken and what becomes of them
+pub record OnLists (s : State) (slot : ℕ) (r : Outcome State) (e : Effect) (f : Task → Task) : Type 0 where
+  pub queue : contents (r .after) slot ≡ e .queue
+  pub others : (i : ℕ) → i < 16 → (i ≡ slot → ⊥) → contents (r .after) i ≡ contents s i
+  pub value : r .answer .value ≡ e .value
+  pub woken : r .answer .woken ≡ maskOf (e .woken)
+  pub tasks : (k : ℕ) → k < 32 → isIn k (e .woken) ≡ true → taskAt (r .after) k ≡ f (taskAt s k)
+
+-- no task is in the empty list
+pub none-in : {P : Type 0} (k : ℕ) → isIn k [] ≡ true → P
+unfolding isIn
+none-in k e = absurd (false≢true e)
+
+module _ {s : State} (g : SoundFacts s) (slot : ℕ) (slot< : slot < 16) where
+  pub waiters-mask : mask (waitersOf s slot) ≡ maskOf (contents s slot .waiters)
+  unfolding waitersOf contents
+  waiters-mask = mask-of _ (s .tasks) (freshTask 1) _ (g .sized .tasks) (λ k h. in-by-rank (tasks-ranked s g slot slot<) k h)
+
+  pub count-waiters : queueAt s slot .waiters ≡ length (contents s slot .waiters)
+  unfolding contents
+  count-waiters = sym (length-by-rank (tasks-ranked s g slot slot<))
+
+  pub count-messages : queueAt s slot .pending ≡ length (contents s slot .messages)
+  unfolding contents
+  count-messages = sym (length-map (byRank (λ (m : Buffer). m .position) slot (queueAt s slot .pending) (s .pool)) _ ∙ length-by-rank (buffers-ranked s g slot slot<))
+
+  -- a task is in the queue exactly if it is one of its waiters
+  pub waits-in : (k : ℕ) → k < 32 → inQueue slot (taskAt s k .position) ≡ isIn k (contents s slot .waiters)
+  unfolding contents
+  waits-in k h = in-by-rank (tasks-ranked s g slot slot<) k h

@@ -1,0 +1,150 @@
+-- Send and urgent on a queue as a list. Assumes nothing.
+use Prim.Native.Nat.{ℕ, suc, _≤_, _<_}
+use native.Mathlib.Omega.{arith}
+use mathlib.Core.Path.{_≡_, refl, sym, ap, ap₂, _∙_, subst}
+use mathlib.Core.Bool.{Bool, true, false, or-false}
+use mathlib.Core.List.{List, [], _∷_, _++_, map}
+use lib.Dec.{eqb}
+use lib.ListN.{take, drop}
+use lib.Seq.{take-append-seam}
+use borrow.Author.Tests.{eqb-true, ltb-true, ltb-false}
+use Rattle.ranks.specs.Lists.{if_then_else_}
+use Rattle.ranks.specs.Position.{positionAt}
+use Rattle.ranks.specs.Steps.{inserted, byRank}
+use Rattle.records.specs.Split.{shareOfSlot}
+use Rattle.records.specs.Records.{Queue, Buffer, Task, State, queueAt, bufferAt, taskAt, freeBuffer, freshTask}
+use Rattle.records.specs.Changes.{withPending, moveBuffer, messageBuffer, withMessage}
+use Rattle.specification.specs.Answer.{Outcome}
+use Rattle.specification.specs.Lookup.{firstWaiter, hasWaiter, leave}
+use Rattle.specification.specs.Submit.{freeBufferOf, delivered, enqueued, effect}
+use Rattle.theorems.specs.QueueLists.{Contents, Effect, messageIn, contents, leaves, submit, isIn}
+use Rattle.ranks.proofs.Ranks.{in-itself}
+use Rattle.ranks.proofs.ByRank.{Changed, inserted-list}
+use Rattle.specification.proofs.SoundFacts.{Sized, SoundFacts}
+use Rattle.theorems.proofs.FieldsInRange.{buffers-ranked}
+use Rattle.theorems.proofs.CountChange
+use Rattle.theorems.proofs.SoundSubmit.{first-waits, none-waits, free-found, Submitted}
+use Rattle.theorems.proofs.ListSteps.{map-put, map-by-rank, stepped-here, stepped-other, stepped-changed, inserted-agree}
+use Rattle.theorems.proofs.ListContents.{same-messages, kept-waiters, both-lists, no-waiters, mask-of, mask-none, OnLists, none-in}
+use Rattle.theorems.proofs.ListLeave.{Leaves, leave-lists}
+
+-- ---- A message that is queued
+
+module _ {s : State} (g : SoundFacts s) (b slot rank : ℕ) (message : List ℕ) (b< : b < 64) (slot< : slot < 16) (free : bufferAt s b .position .queue ≡ 0)
+    (le : rank ≤ queueAt s slot .pending) (z′ : Sized (enqueued s b slot rank message .after)) where
+  abbrev s′ : State
+  s′ = enqueued s b slot rank message .after
+
+  abbrev more : Queue → Queue
+  more q = withPending (suc (q .pending)) q
+
+  abbrev new : Buffer → Buffer
+  new m = messageBuffer (positionAt slot rank) message
+
+  changed : Changed (λ (m : Buffer). m .position) freeBuffer 64 (s .pool) (s′ .pool) (inserted b slot rank)
+  unfolding enqueued
+  changed =
+      stepped-changed (buffers-ranked s g slot slot<) moveBuffer b new (inserted b slot rank) (λ p m. refl) (λ m. sym (in-itself b slot rank (m .position)))
+
+  -- a buffer in use holds what it held
+  held : (i j : ℕ) → j < 64 → bufferAt s j .position .queue ≡ suc i → messageIn (bufferAt s′ j) ≡ messageIn (bufferAt s j)
+  unfolding enqueued
+  held i j h q =
+      ap messageIn
+      (stepped-other (buffers-ranked s g slot slot<) moveBuffer b new (inserted b slot rank) j h
+      (λ e. let z : suc i ≡ 0 = sym q ∙ ap (λ (k : ℕ). bufferAt s k .position .queue) e ∙ free in omega arith))
+
+  new-message : messageIn (bufferAt s′ b) ≡ message
+  unfolding enqueued
+  new-message =
+      ap messageIn (stepped-here (buffers-ranked s g slot slot<) moveBuffer b new (inserted b slot rank) b<) ∙ take-append-seam message _
+
+  messages : contents s′ slot .messages ≡ take rank (contents s slot .messages) ++ message ∷ drop rank (contents s slot .messages)
+  unfolding contents enqueued
+  messages =
+      let f : ℕ → List ℕ = λ j. messageIn (bufferAt s′ j) in
+      ap (λ (n : ℕ). map f (byRank (λ (m : Buffer). m .position) slot n (s′ .pool)))
+      (ap (λ (q : Queue). q .pending) (CountChange.here s s′ g z′ slot slot< more refl))
+      ∙ ap (map f) (inserted-list (buffers-ranked s g slot slot<) (s′ .pool) (z′ .pool) b rank b< free le changed)
+      ∙ map-put f _ rank b
+      ∙ ap₂ (λ (m : List ℕ) (ms : List (List ℕ)). take rank ms ++ m ∷ drop rank ms) new-message (map-by-rank (buffers-ranked s g slot slot<) _ _ (held slot))
+
+  other : (i : ℕ) → i < 16 → (i ≡ slot → ⊥) → contents s′ i .messages ≡ contents s i .messages
+  unfolding enqueued
+  other i i< ne =
+      same-messages g i i< s′ z′ (ap (λ (q : Queue). q .pending) (CountChange.other s s′ g z′ slot slot< more refl i i< ne))
+      (inserted-agree (buffers-ranked s g i i<) (s′ .pool) b slot rank ne free changed) (held i)
+
+  pub enqueued-lists : (f : Task → Task)
+      → OnLists s slot (enqueued s b slot rank message)
+      (leaves (take rank (contents s slot .messages) ++ message ∷ drop rank (contents s slot .messages)) (contents s slot .waiters) [] 0) f
+  unfolding enqueued
+  enqueued-lists f =
+      record {
+        queue = both-lists messages (waiters slot slot<);
+        others = λ i i< ne. both-lists (other i i< ne) (waiters i i<);
+        value = refl;
+        woken = mask-none;
+        tasks = λ k h. none-in k;
+      }
+    where
+      waiters : (i : ℕ) → i < 16 → contents s′ i .waiters ≡ contents s i .waiters
+      waiters = kept-waiters g slot slot< s′ z′ more refl refl refl
+
+-- ---- A message that a waiter gets
+
+alone : (k t : ℕ) → eqb k t ≡ isIn k (t ∷ [])
+unfolding isIn
+alone k t = sym (or-false (eqb k t))
+
+delivered-lists : {s : State} (g : SoundFacts s) (t slot : ℕ) (message : List ℕ) (slot< : slot < 16) → Leaves s t slot 0 (withMessage message) (delivered s t slot message .after)
+    → OnLists s slot (delivered s t slot message)
+    (leaves (contents s slot .messages) (contents (delivered s t slot message .after) slot .waiters) (t ∷ []) 0) (withMessage message)
+unfolding delivered
+delivered-lists {s} g t slot message slot< l =
+    record {
+      queue = both-lists (l .messages slot slot<) refl;
+      others = λ i i< ne. both-lists (l .messages i i<) (l .others i i< ne);
+      value = refl;
+      woken = mask-of _ (s .tasks) (freshTask 1) (t ∷ []) (g .sized .tasks) (λ k h. alone k t);
+      tasks =
+          λ k h e.
+          subst (λ (n : ℕ). taskAt (leave s t slot 0 (withMessage message)) n ≡ withMessage message (taskAt s n)) (sym (eqb-true k t (alone k t ∙ e))) (l .leaver);
+    }
+
+-- ---- Send and urgent
+
+module _ (enqueue : List (List ℕ) → List (List ℕ)) (q : Contents) where
+  submit-first : (w : ℕ) (ws : List ℕ) → q .waiters ≡ w ∷ ws → leaves (q .messages) ws (w ∷ []) 0 ≡ submit enqueue q
+  unfolding submit
+  submit-first w ws e = rw e
+
+  submit-none : (ms : List (List ℕ)) → enqueue (q .messages) ≡ ms → q .waiters ≡ [] → leaves ms (q .waiters) [] 0 ≡ submit enqueue q
+  unfolding submit
+  submit-none ms p e = rw (e, p)
+
+module _ {s : State} (g : SoundFacts s) (slot rank : ℕ) (message : List ℕ) (slot< : slot < 16) (ok : Submitted s slot message)
+    (le : rank ≤ queueAt s slot .pending) (enqueue : List (List ℕ) → List (List ℕ))
+    (at-rank : enqueue (contents s slot .messages) ≡ take rank (contents s slot .messages) ++ message ∷ drop rank (contents s slot .messages)) where
+  abbrev Submits : Outcome State → Type 0
+  Submits r = OnLists s slot r (submit enqueue (contents s slot)) (withMessage message)
+
+  pub submit-lists : Sized (effect s slot rank message .after) → Submits (effect s slot rank message)
+  unfolding effect delivered
+  submit-lists = go (hasWaiter s slot) refl
+    where
+      go : (b : Bool) → hasWaiter s slot ≡ b
+          → Sized ((if b then delivered s (firstWaiter s slot) slot message else enqueued s (freeBufferOf s (shareOfSlot slot)) slot rank message) .after)
+          → Submits (if b then delivered s (firstWaiter s slot) slot message else enqueued s (freeBufferOf s (shareOfSlot slot)) slot rank message)
+      go true e z′ =
+          let h : firstWaiter s slot < 32 = ltb-true _ _ e in
+          let (q, r) = first-waits s (g .sized) slot h in
+          let l = leave-lists g (firstWaiter s slot) slot 0 (withMessage message) slot< (h, q, r) (λ w. refl) z′ in
+          subst (λ (c : Effect). OnLists s slot (delivered s (firstWaiter s slot) slot message) c (withMessage message))
+          (submit-first enqueue (contents s slot) _ _ (l .first refl)) (delivered-lists g _ slot message slot< l)
+      go false e z′ =
+          let (free, own) = free-found s (g .sized) (shareOfSlot slot) (ok .free e) in
+          let none = no-waiters s slot (none-waits s g slot slot< (ltb-false _ _ e)) in
+          subst (λ (c : Effect). OnLists s slot (enqueued s (freeBufferOf s (shareOfSlot slot)) slot rank message) c (withMessage message))
+          (submit-none enqueue (contents s slot) _ at-rank none)
+          (enqueued-lists g _ slot rank message (ok .free e) slot< free le z′ (withMessage message))

@@ -1,0 +1,5 @@
+pub mod CasesHold
+pub mod Demands
+pub mod Noninterference
+pub mod QueueLists
+pub mod SoundTables

@@ -1,0 +1,1 @@
+// Theorems about calls and runs. There is no code here.

@@ -39,13 +39,12 @@ out-itself t slot rank p = rw (eq-eqb t t refl)
 
 pub out : (t slot rank j : ℕ) (p : Position) → (j ≡ t → ⊥) → Out slot rank p (takenOut t slot rank j p)
 unfolding takenOut
-out t slot rank j p ne = rw (ne-eqb j t ne) (go (inQueue slot p) (ltb rank (p .rank)) refl refl)
+out t slot rank j p ne = go (inQueue slot p) (ltb rank (p .rank)) refl refl
   where
-    go : (a b : Bool) → inQueue slot p ≡ a → ltb rank (p .rank) ≡ b
-        → Out slot rank p (elim (a && b) [ true ↦ positionAt slot (p .rank - 1) | false ↦ p ])
-    go true true e f = let h : rank < p .rank = ltb-true _ _ f in behind (eqb-true _ _ e) h refl (omega arith)
-    go true false e f = ahead (eqb-true _ _ e) (ltb-false _ _ f) (eqb-true _ _ e) refl
-    go false b e f = elsewhere (eqb-false _ _ e) refl
+    go : (a b : Bool) → inQueue slot p ≡ a → ltb rank (p .rank) ≡ b → Out slot rank p (takenOut t slot rank j p)
+    go true true e f = let h : rank < p .rank = ltb-true _ _ f in rw (takenOut, ne-eqb j t ne, e, f) (behind (eqb-true _ _ e) h refl (omega arith))
+    go true false e f = rw (takenOut, ne-eqb j t ne, e, f) (ahead (eqb-true _ _ e) (ltb-false _ _ f) (eqb-true _ _ e) refl)
+    go false b e f = rw (takenOut, ne-eqb j t ne, e) (elsewhere (eqb-false _ _ e) refl)
 
 -- The place p of another record becomes p′ when one is put in at the rank.
 pub data In (slot rank : ℕ) (p p′ : Position) : Type 0 where

@@ -1,16 +1,21 @@
--- Records have the bytes that the cases name, and the bytes are read back; fresh tables byte by byte. Assumes nothing.
-use Rattle.ranks.specs.Prelude.{ℕ, List, [], _∷_, _++_, map, replicate}
-use Rattle.ranks.specs.Lists.{mapFromIndex, mapWithIndex, range}
+-- Records have the bytes that the cases name, and the bytes are read back; the share of each record; fresh tables byte by byte. Assumes nothing.
+use Rattle.ranks.specs.Prelude.{ℕ, List, [], _∷_, map, replicate}
+use Rattle.ranks.specs.Lists.{mapFromIndex, mapWithIndex, first, range}
 use Rattle.ranks.specs.Table.{slice}
+use Rattle.records.specs.Split.{split, shareOfSlot, shareOfBuffer, shareOfTask, shareLimit}
 use Rattle.records.specs.Records.{fresh, freshTask}
-use Rattle.records.specs.Bytes.{Tables, fromLittleEndian, toLittleEndian, decodeQueue, encodeQueue, decodeBuffer, encodeBuffer, decodeTask, encodeTask, encode}
-use Rattle.records.specs.RecordCases.{exampleQueue, queueBytes, exampleBuffer, bufferBytes, exampleTask, taskBytes, recordCases}
+use Rattle.records.specs.Bytes.{fromLittleEndian, toLittleEndian, decodeQueue, encodeQueue, decodeBuffer, encodeBuffer, decodeTask, encodeTask, encode}
+use Rattle.records.specs.RecordCases.{exampleQueue, queueBytes, exampleBuffer, bufferBytes, exampleTask, taskBytes, recordCases, splitCases}
 use mathlib.Core.Path.{_≡_, refl, ap}
 use mathlib.Core.List.{flatten}
 
 pub record-cases : map (λ k. k .actual) recordCases ≡ map (λ k. k .expected) recordCases
 unfolding range toLittleEndian encodeQueue encodeBuffer encodeTask exampleQueue queueBytes exampleBuffer bufferBytes exampleTask taskBytes recordCases
 record-cases = refl
+
+pub split-cases : map (λ k. k .actual) splitCases ≡ map (λ k. k .expected) splitCases
+unfolding range first split shareOfSlot shareOfBuffer shareOfTask shareLimit splitCases
+split-cases = refl
 
 pub queue-read : decodeQueue queueBytes ≡ exampleQueue
 unfolding slice fromLittleEndian decodeQueue exampleQueue queueBytes

@@ -1,7 +1,9 @@
--- Document 01, "Tables": a record of each kind, free and fresh records, and changed records, each with its bytes.
-use Rattle.ranks.specs.Prelude.{ℕ, List, [], _∷_, _++_, replicate}
+-- Document 01, "Tables": a record of each kind, free and fresh records, and changed records, each with its bytes; and the share of each
+-- record.
+use Rattle.ranks.specs.Prelude.{ℕ, List, [], _∷_, _++_, map, replicate}
 use Rattle.ranks.specs.Lists.{range}
 use Rattle.ranks.specs.Position.{positionAt}
+use Rattle.records.specs.Split.{shareOfSlot, shareOfBuffer, shareOfTask, shareLimit}
 use Rattle.records.specs.Records.{Queue, Buffer, Task, freeQueue, freeBuffer, freshTask}
 use Rattle.records.specs.Bytes.{encodeQueue, encodeBuffer, encodeTask}
 use Rattle.records.specs.Changes.{withPending, withWaiters, moveBuffer, messageBuffer, withTicks, moveTask, readyWith, withMessage, waitingAt}
@@ -51,18 +53,18 @@ taskBytes = 1 ∷ 2 ∷ 3 ∷ 4 ∷ 5 ∷ 6 ∷ 7 ∷ 8 ∷ 9 ∷ 10 ∷ 11 ∷ 
 
 -- ---- Records and their bytes
 
-pub record RecordCase : Type 0 where
+pub record Expectation : Type 0 where
   pub actual : List ℕ
   pub expected : List ℕ
 
 infix 60 _are_
-abbrev _are_ : (actual expected : List ℕ) → RecordCase
+abbrev _are_ : (actual expected : List ℕ) → Expectation
 _are_ actual expected = record { actual = actual; expected = expected }
 
 abbrev zeros : ℕ → List ℕ
 zeros n = replicate n 0
 
-unfoldable pub recordCases : List RecordCase
+unfoldable pub recordCases : List Expectation
 recordCases =
     (encodeQueue exampleQueue are queueBytes)
     ∷ (encodeBuffer exampleBuffer are bufferBytes)
@@ -89,4 +91,16 @@ recordCases =
     -- a waiter that moves, and one with other ticks
     ∷ (encodeTask (moveTask (positionAt 4 2) exampleTask) are (1 ∷ 5 ∷ 2 ∷ range 4 133))
     ∷ (encodeTask (withTicks 0x04030201 exampleTask) are (1 ∷ 2 ∷ 3 ∷ 4 ∷ 5 ∷ 6 ∷ 7 ∷ 8 ∷ 1 ∷ 2 ∷ 3 ∷ 4 ∷ range 13 124))
+    ∷ []
+
+-- ---- The split
+
+unfoldable pub splitCases : List Expectation
+splitCases =
+    -- "Share p (0 to 3) owns slots 4p to 4p+3, buffers 16p to 16p+15, tasks 8p to 8p+7." What is past the end is of no share, 4.
+    (map shareOfSlot (range 0 17) are (replicate 4 0 ++ replicate 4 1 ++ replicate 4 2 ++ replicate 4 3 ++ (4 ∷ [])))
+    ∷ (map shareOfBuffer (range 0 65) are (replicate 16 0 ++ replicate 16 1 ++ replicate 16 2 ++ replicate 16 3 ++ (4 ∷ [])))
+    ∷ (map shareOfTask (range 0 33) are (replicate 8 0 ++ replicate 8 1 ++ replicate 8 2 ++ replicate 8 3 ++ (4 ∷ [])))
+    -- "In each share the limits of live queues sum to at most 16."
+    ∷ (map shareLimit (range 0 5) are (16 ∷ 16 ∷ 16 ∷ 16 ∷ 0 ∷ []))
     ∷ []

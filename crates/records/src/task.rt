@@ -12,7 +12,20 @@ fn deliver_to(r: &mut [u8], message: &[u8])
     requires { ⌜ (length (now r) ≡ 136) × (length (now message) ≤ 120) ⌝ }
     ensures { λ _. ⌜ decodeTask (now (r .exit)) ≡ withMessage (now (message .entry)) (decodeTask (now (r .entry))) ⌝ }
 {
-    let head = [0, 0, 0, r[3], 0, message.len() as u8, r[6], r[7], 0, 0, 0, 0];
+    let head = [
+        0,
+        0,
+        0,
+        r[3],
+        0,
+        message.len() as u8,
+        r[6],
+        r[7],
+        0,
+        0,
+        0,
+        0,
+    ];
     copy_into(r, 0, &head);
     copy_into(r, 16, message);
 }

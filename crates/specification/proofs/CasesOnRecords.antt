@@ -8,7 +8,7 @@ use Rattle.records.specs.Bytes.{encodeQueue, encodeBuffer, encodeTask}
 use Rattle.specification.specs.Run.{Event, goodPriorities}
 use Rattle.specification.specs.Call.{Call, argumentsInRange}
 use Rattle.specification.specs.Cases.{TableName, queueTable, poolTable, taskTable, Field, Case, Observation, callsOf, widthOf, expected, paperCases, refusalCases, queueCases, messageCases, waiterCases, cases}
-use Rattle.specification.proofs.OnRecords.{callOnRecords, eventsOnRecords, stateAfter}
+use Rattle.specification.proofs.OnRecords.{eventsOnRecords, stateAfter}
 use mathlib.Core.Path.{_≡_, refl, sym, _∙_, ap₂}
 use mathlib.Core.List.{map-append}
 use Rattle.ranks.specs.Lists

@@ -1,13 +1,13 @@
 -- The sound images are sound, each unsound one breaks one part of soundness, and calls on images are answered as expected. All of it is
 -- computed. Assumes nothing.
-use Rattle.ranks.specs.Prelude.{ℕ, Bool, true, false, List, [], _∷_, _++_, map}
+use Rattle.ranks.specs.Prelude.{Bool, true, false, List, [], _∷_, _++_, map}
 use Rattle.ranks.specs.Lists.{_implies_, all, every}
 use Rattle.records.specs.Records.{State, isLive}
 use Rattle.specification.specs.Sound.{soundQueue, soundLimits, soundBuffer, soundRanks, soundTask, sound}
 use Rattle.specification.specs.Cases.{Observation}
 use Rattle.specification.specs.Images.{Image, ImageCase, changeRecord, written, stateOf, base, allWait, soundImages, badQueues, badLimits, badBuffers, badRanks, badTasks, unsoundImages, expectedOf, imageCases}
 use Rattle.specification.proofs.CasesOnRecords.{observedFrom, Computed, agree-append}
-use mathlib.Core.Path.{_≡_, refl, sym, ap, ap₂, _∙_}
+use mathlib.Core.Path.{_≡_, refl, sym, ap, _∙_}
 use mathlib.Core.List.{map-map}
 
 -- the five parts of soundness, each for itself

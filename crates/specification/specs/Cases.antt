@@ -7,14 +7,14 @@ use Rattle.records.specs.Layout.{queueWidth, bufferWidth, taskWidth}
 use Rattle.records.specs.Bytes.{Tables}
 use Rattle.specification.specs.Answer.{Answer}
 use Rattle.specification.specs.Call.{Call, delete, send, urgent, broadcast, receive, getNumberPending, flush, create, ident, onQueue, call, tick}
-use Rattle.specification.specs.Run.{Event, Run, run, freshTables}
+use Rattle.specification.specs.Run.{Event, run, freshTables}
 
 pub data TableName : Type 0 where
   queueTable : TableName
   poolTable : TableName
   taskTable : TableName
 
--- `bytes` are expected in record `number` of the table, from `place` in the record on
+-- bytes in record `number` of the table, from `place` in the record on
 pub record Field : Type 0 where
   pub table : TableName
   pub number : ℕ
@@ -259,8 +259,7 @@ refusalCases =
     ∷ sendBy 32 32 AB gives refused 11 ∷ sendBy 0 32 AB gives refused 2 ∷ sendBy 0 16 AB gives refused 3 ∷ sendBy 0 16 [] gives refused 3
     ∷ sendBy 0 16 B gives refused 5
     ∷ urgentBy 32 32 AB gives refused 11 ∷ urgentBy 0 32 AB gives refused 2 ∷ urgentBy 0 16 AB gives refused 3
-    ∷ urgentBy 0 16 [] gives refused 3
-    ∷ urgentBy 0 16 B gives refused 5
+    ∷ urgentBy 0 16 [] gives refused 3 ∷ urgentBy 0 16 B gives refused 5
     ∷ broadcastBy 32 32 AB gives refused 11 ∷ broadcastBy 0 32 AB gives refused 2 ∷ broadcastBy 0 16 AB gives refused 3
     ∷ broadcastBy 0 16 [] gives refused 3 ∷ broadcastBy 0 16 B gives value 0 ∷ pollBy 1 16 gives value 1 ∷ [])
     (inTask 1 16 A ∷ [])
@@ -275,17 +274,15 @@ refusalCases =
     ∷ case rising
     (createBy 0 2 8 0 gives value 16 ∷ waitBy 1 16 0 gives waits
     ∷ createNamedBy 1 0 2 8 0 gives refused 11 ∷ identBy 1 0 0 gives refused 11 ∷ deleteBy 1 32 gives refused 11
-    ∷ sendBy 1 32 A gives refused 11
-    ∷ urgentBy 1 32 A gives refused 11 ∷ broadcastBy 1 32 A gives refused 11 ∷ pollBy 1 32 gives refused 11 ∷ pendingBy 1 32 gives refused 11
-    ∷ flushBy 1 32 gives refused 11 ∷ broadcastBy 1 16 A gives refused 11 ∷ [])
+    ∷ sendBy 1 32 A gives refused 11 ∷ urgentBy 1 32 A gives refused 11 ∷ broadcastBy 1 32 A gives refused 11
+    ∷ pollBy 1 32 gives refused 11 ∷ pendingBy 1 32 gives refused 11 ∷ flushBy 1 32 gives refused 11
+    ∷ broadcastBy 1 16 A gives refused 11 ∷ [])
     (inTask 1 0 (1 ∷ 1 ∷ 0 ∷ 2 ∷ 14 ∷ 0 ∷ []) ∷ [])
     -- R7 numbers are not cut to a byte.
     ∷ case rising
     (createBy 256 2 8 0 gives refused 11 ∷ createBy 0 2 8 256 gives refused 15 ∷ createBy 0 257 8 0 gives refused 4
-    ∷ createBy 0 2 257 0 gives refused 3
-    ∷ createBy 0 2 8 0 gives value 16 ∷ identBy 0 81 256 gives refused 9 ∷ identBy 0 337 0 gives refused 1
-    ∷ receiveBy 0 16 257 0 gives refused 15
-    ∷ sendBy 0 16 (replicate 257 1) gives refused 3 ∷ [])
+    ∷ createBy 0 2 257 0 gives refused 3 ∷ createBy 0 2 8 0 gives value 16 ∷ identBy 0 81 256 gives refused 9
+    ∷ identBy 0 337 0 gives refused 1 ∷ receiveBy 0 16 257 0 gives refused 15 ∷ sendBy 0 16 (replicate 257 1) gives refused 3 ∷ [])
     []
     -- R8 the size is tested before anything is copied: a waiter keeps waiting.
     ∷ case rising
@@ -331,8 +328,7 @@ queueCases =
     ∷ case rising
     (createBy 0 8 8 0 gives value 16 ∷ createBy 7 8 8 0 gives value 17 ∷ createBy 8 8 8 0 gives value 20 ∷ createBy 15 8 8 0 gives value 21
     ∷ createBy 16 8 8 0 gives value 24 ∷ createBy 23 8 8 0 gives value 25 ∷ createBy 24 8 8 0 gives value 28
-    ∷ createBy 31 8 8 0 gives value 29
-    ∷ createBy 31 1 8 0 gives refused 6 ∷ [])
+    ∷ createBy 31 8 8 0 gives value 29 ∷ createBy 31 1 8 0 gives refused 6 ∷ [])
     []
     -- Q6 ident: the lowest live slot of the name, in a foreign share only OPEN ones; the value is the id.
     ∷ case rising
@@ -367,11 +363,16 @@ queueCases =
 
 unfoldable pub messageCases : List Case
 messageCases =
-    -- M1 sixteen messages are held, in all of the share's buffers.
+    -- M1 sixteen messages are held, in all of the share's buffers: of the first share, and of the last.
     case rising
     (createBy 0 16 8 0 gives value 16 ∷ replicate 15 (sendBy 0 16 A gives done)
     ++ (sendBy 0 16 B gives done ∷ sendBy 0 16 C gives refused 5 ∷ pendingBy 0 16 gives value 16 ∷ []))
     (inBuffer 15 0 (1 ∷ 15 ∷ 1 ∷ zeros 5 ++ B) ∷ inBuffer 16 0 (zeros 128) ∷ inQueueRecord 0 6 (16 ∷ 0 ∷ []) ∷ [])
+    ∷ case rising
+    (createBy 31 16 8 0 gives value 28 ∷ sendBy 31 28 A gives done ∷ replicate 14 (sendBy 31 28 B gives done)
+    ++ (sendBy 31 28 C gives done ∷ sendBy 31 28 D gives refused 5 ∷ pendingBy 31 28 gives value 16 ∷ []))
+    (inBuffer 47 0 (zeros 128) ∷ inBuffer 48 0 (13 ∷ 0 ∷ 1 ∷ zeros 5 ++ A) ∷ inBuffer 63 0 (13 ∷ 15 ∷ 1 ∷ zeros 5 ++ C)
+    ∷ inQueueRecord 12 6 (16 ∷ 0 ∷ []) ∷ [])
     -- M2 a message goes into the lowest free buffer, which need not be the rear's; a receive zeroes the whole buffer and those behind move up.
     ∷ case rising
     (createBy 0 4 8 0 gives value 16 ∷ sendBy 0 16 A gives done ∷ sendBy 0 16 B gives done ∷ sendBy 0 16 C gives done
@@ -438,8 +439,7 @@ waiterCases =
     -- T4 send and urgent wake the first waiter and leave the others in their order.
     ∷ case rising
     (createBy 0 2 8 0 gives value 16 ∷ waitBy 3 16 0 gives waits ∷ waitBy 1 16 0 gives waits ∷ waitBy 4 16 0 gives waits
-    ∷ waitBy 2 16 0 gives waits
-    ∷ urgentBy 0 16 A gives wakes 8 ∷ sendBy 0 16 B gives wakes 2 ∷ [])
+    ∷ waitBy 2 16 0 gives waits ∷ urgentBy 0 16 A gives wakes 8 ∷ sendBy 0 16 B gives wakes 2 ∷ [])
     (inTask 3 16 A ∷ inTask 1 16 B ∷ inTask 4 0 (1 ∷ 1 ∷ 0 ∷ 5 ∷ 14 ∷ 0 ∷ []) ∷ inTask 2 0 (1 ∷ 1 ∷ 1 ∷ 3 ∷ 14 ∷ 0 ∷ [])
     ∷ inQueueRecord 0 6 (0 ∷ 2 ∷ []) ∷ [])
     -- T5 equal priorities: a newcomer stands behind those of its number.

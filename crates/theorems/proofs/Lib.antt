@@ -18,6 +18,7 @@ pub mod ListQueues
 pub mod ListReceive
 pub mod ListSteps
 pub mod ListSubmit
+pub mod ListTests
 pub mod ListTick
 pub mod ListsOnBytes
 pub mod LocalRespect

@@ -1,12 +1,12 @@
 -- Broadcast, delete, flush and pending on a queue as a list. Assumes nothing.
 use Prim.Native.Nat.{ℕ, _<_}
 use mathlib.Core.Path.{_≡_, refl, ap, _∙_}
-use mathlib.Core.Bool.{true}
 use mathlib.Core.List.{List, []}
-use lib.ListN.{length}
-use Rattle.ranks.specs.Lists.{mapWithIndex}
+use lib.Dec.{eqb}
+use lib.ListN.{length, getD}
+use Rattle.ranks.specs.Lists.{if_then_else_, mapWithIndex}
 use Rattle.ranks.specs.Position.{noQueue}
-use Rattle.records.specs.Records.{Queue, Task, State, queueAt, taskAt, freeQueue, freeBuffer}
+use Rattle.records.specs.Records.{Queue, Task, State, queueAt, taskAt, freeQueue, freeBuffer, freshTask}
 use Rattle.records.specs.Changes.{atIndex, withPending, withWaiters, withMessage, readyWith}
 use Rattle.records.specs.Status.{OBJECT-WAS-DELETED}
 use Rattle.specification.specs.Lookup.{waitersOf, withoutWaiters, withoutMessages}
@@ -14,13 +14,13 @@ use Rattle.specification.specs.Broadcast
 use Rattle.specification.specs.Delete
 use Rattle.specification.specs.Flush
 use Rattle.specification.specs.GetNumberPending
-use Rattle.theorems.specs.QueueLists.{messageIn, contents, leaves, isIn}
+use Rattle.theorems.specs.QueueLists.{messageIn, contents, leaves, isIn, SameButPosition, OperationOnLists}
 use Rattle.ranks.proofs.ByRank.{counted}
 use Rattle.specification.proofs.SoundFacts.{Sized, SoundFacts}
 use Rattle.theorems.proofs.FieldsInRange.{buffers-ranked, tasks-ranked}
 use Rattle.theorems.proofs.CountChange
 use Rattle.theorems.proofs.ListSteps.{cleared-at, cleared-other, cleared-agree}
-use Rattle.theorems.proofs.ListContents.{same-messages, same-waiters, kept-messages, kept-waiters, both-lists, no-messages, no-waiters, mask-none, OnLists, none-in, waiters-mask, count-waiters, count-messages, waits-in}
+use Rattle.theorems.proofs.ListContents.{same-messages, same-waiters, kept-messages, kept-waiters, both-lists, no-messages, no-waiters, mask-none, same-task, own-kept, changed-queues, waiters-mask, count-waiters, count-messages, waits-in}
 
 -- The queue in the slot is changed by h, and all its waiters leave, or all its messages are removed.
 module _ {s : State} (g : SoundFacts s) (slot : ℕ) (slot< : slot < 16) (s′ : State) (z′ : Sized s′) (h : Queue → Queue)
@@ -37,9 +37,9 @@ module _ {s : State} (g : SoundFacts s) (slot : ℕ) (slot< : slot < 16) (s′ :
     other-waiters i i< ne =
         same-waiters g i i< s′ z′ (ap (λ (q : Queue). q .waiters) (other i i< ne)) (λ j lt. rw tasks (cleared-agree (tasks-ranked s g i i<) slot f gone ne j lt))
 
-    woken-task : (k : ℕ) → k < 32 → isIn k (contents s slot .waiters) ≡ true → taskAt s′ k ≡ f (taskAt s k)
+    cleared-tasks : (k : ℕ) → k < 32 → SameButPosition (if isIn k (contents s slot .waiters) then f (taskAt s k) else taskAt s k) (taskAt s′ k)
     unfolding withoutWaiters
-    woken-task k lt w = rw tasks (cleared-at (tasks-ranked s g slot slot<) slot f k lt true (waits-in g slot slot< k lt ∙ w))
+    cleared-tasks k lt = same-task _ _ (ap (λ (ws : List Task). getD ws k (freshTask 1)) tasks ∙ cleared-at (tasks-ranked s g slot slot<) slot f k lt _ (waits-in g slot slot< k lt))
 
   module _ (pool : s′ .pool ≡ withoutMessages s slot) where
     all-removed : h (queueAt s slot) .pending ≡ 0 → contents s′ slot .messages ≡ []
@@ -53,16 +53,24 @@ module _ {s : State} (g : SoundFacts s) (slot : ℕ) (slot< : slot < 16) (s′ :
         (λ j lt q. rw pool (ap messageIn (cleared-other (buffers-ranked s g i i<) slot (λ _. freeBuffer) ne j lt q)))
 
 module _ {s : State} (g : SoundFacts s) (slot : ℕ) (slot< : slot < 16) where
+  abbrev ms : List (List ℕ)
+  ms = contents s slot .messages
+
+  abbrev ws : List ℕ
+  ws = contents s slot .waiters
+
   pub broadcast-lists : (message : List ℕ) → Sized (Broadcast.effect s slot message .after)
-      → OnLists s slot (Broadcast.effect s slot message) (leaves (contents s slot .messages) [] (contents s slot .waiters) (length (contents s slot .waiters))) (withMessage message)
+      → OperationOnLists s slot (Broadcast.effect s slot message) (leaves ms [] ws (length ws)) (λ k w. if isIn k ws then withMessage message w else w) (λ q. q)
   unfolding Broadcast.effect waitersOf
   broadcast-lists message z′ =
       record {
         queue = both-lists (messages slot slot<) (all-left g slot slot< s′ z′ (withWaiters 0) refl (withMessage message) (λ w. refl) refl refl);
         others = λ i i< ne. both-lists (messages i i<) (other-waiters g slot slot< s′ z′ (withWaiters 0) refl (withMessage message) (λ w. refl) refl i i< ne);
+        status = refl;
         value = counted (tasks-ranked s g slot slot<) ∙ count-waiters g slot slot<;
         woken = waiters-mask g slot slot<;
-        tasks = woken-task g slot slot< s′ z′ (withWaiters 0) refl (withMessage message) (λ w. refl) refl;
+        tasks = cleared-tasks g slot slot< s′ z′ (withWaiters 0) refl (withMessage message) (λ w. refl) refl;
+        queues = changed-queues g slot slot< s′ z′ (withWaiters 0) (λ q. q) refl (λ q. refl);
       }
     where
       s′ : State
@@ -72,7 +80,8 @@ module _ {s : State} (g : SoundFacts s) (slot : ℕ) (slot< : slot < 16) where
       messages = kept-messages g slot slot< s′ z′ (withWaiters 0) refl refl refl
 
   pub delete-lists : Sized (Delete.effect s slot .after)
-      → OnLists s slot (Delete.effect s slot) (leaves [] [] (contents s slot .waiters) 0) (readyWith OBJECT-WAS-DELETED)
+      → OperationOnLists s slot (Delete.effect s slot) (leaves [] [] ws 0) (λ k w. if isIn k ws then readyWith OBJECT-WAS-DELETED w else w)
+      (λ q. freeQueue (q .generation))
   unfolding Delete.effect
   delete-lists z′ =
       record {
@@ -82,9 +91,11 @@ module _ {s : State} (g : SoundFacts s) (slot : ℕ) (slot< : slot < 16) where
             λ i i< ne.
             both-lists (other-messages g slot slot< s′ z′ clear refl refl i i< ne)
             (other-waiters g slot slot< s′ z′ clear refl (readyWith OBJECT-WAS-DELETED) (λ w. refl) refl i i< ne);
+        status = refl;
         value = refl;
         woken = waiters-mask g slot slot<;
-        tasks = woken-task g slot slot< s′ z′ clear refl (readyWith OBJECT-WAS-DELETED) (λ w. refl) refl;
+        tasks = cleared-tasks g slot slot< s′ z′ clear refl (readyWith OBJECT-WAS-DELETED) (λ w. refl) refl;
+        queues = changed-queues g slot slot< s′ z′ clear clear refl (λ q. refl);
       }
     where
       s′ : State
@@ -94,15 +105,17 @@ module _ {s : State} (g : SoundFacts s) (slot : ℕ) (slot< : slot < 16) where
       clear q = freeQueue (q .generation)
 
   pub flush-lists : Sized (Flush.effect s slot .after)
-      → OnLists s slot (Flush.effect s slot) (leaves [] (contents s slot .waiters) [] (length (contents s slot .messages))) (λ w. w)
+      → OperationOnLists s slot (Flush.effect s slot) (leaves [] ws [] (length ms)) (λ k w. w) (λ q. q)
   unfolding Flush.effect
   flush-lists z′ =
       record {
         queue = both-lists (all-removed g slot slot< s′ z′ (withPending 0) refl refl refl) (waiters slot slot<);
         others = λ i i< ne. both-lists (other-messages g slot slot< s′ z′ (withPending 0) refl refl i i< ne) (waiters i i<);
+        status = refl;
         value = count-messages g slot slot<;
         woken = mask-none;
-        tasks = λ k h. none-in k;
+        tasks = λ k h. refl;
+        queues = changed-queues g slot slot< s′ z′ (withPending 0) (λ q. q) refl (λ q. refl);
       }
     where
       s′ : State
@@ -111,6 +124,15 @@ module _ {s : State} (g : SoundFacts s) (slot : ℕ) (slot< : slot < 16) where
       waiters : (i : ℕ) → i < 16 → contents s′ i .waiters ≡ contents s i .waiters
       waiters = kept-waiters g slot slot< s′ z′ (withPending 0) refl refl refl
 
-  pub pending-lists : OnLists s slot (GetNumberPending.effect s slot) (leaves (contents s slot .messages) (contents s slot .waiters) [] (length (contents s slot .messages))) (λ w. w)
+  pub pending-lists : OperationOnLists s slot (GetNumberPending.effect s slot) (leaves ms ws [] (length ms)) (λ k w. w) (λ q. q)
   unfolding GetNumberPending.effect
-  pending-lists = record { queue = refl; others = λ i h ne. refl; value = count-messages g slot slot<; woken = mask-none; tasks = λ k h. none-in k }
+  pending-lists =
+      record {
+        queue = refl;
+        others = λ i h ne. refl;
+        status = refl;
+        value = count-messages g slot slot<;
+        woken = mask-none;
+        tasks = λ k h. refl;
+        queues = λ i h. own-kept (eqb i slot) _ _ _ refl;
+      }

@@ -9,14 +9,13 @@ use mathlib.Core.List.{List, [], _∷_, map}
 use lib.Dec.{eqb}
 use lib.ListN.{length, getD, length-map}
 use borrow.Author.Tests.{eqb-true, eqb-false, eq-eqb}
-use Rattle.ranks.specs.Lists.{mapWithIndex, mask, range}
+use Rattle.ranks.specs.Lists.{if_then_else_, mapWithIndex, mask, range}
 use Rattle.ranks.specs.Position.{Position, inQueue}
 use Rattle.ranks.specs.Steps.{byRank}
-use Rattle.records.specs.Changes.{atIndex}
+use Rattle.records.specs.Changes.{atIndex, withWaiters, moveTask}
 use Rattle.records.specs.Records.{Queue, Buffer, Task, State, queueAt, bufferAt, taskAt, freeBuffer, freshTask}
-use Rattle.specification.specs.Answer.{Outcome}
 use Rattle.specification.specs.Lookup.{waitersOf}
-use Rattle.theorems.specs.QueueLists.{Contents, Effect, messageIn, contents, isIn, maskOf}
+use Rattle.theorems.specs.QueueLists.{Contents, messageIn, contents, isIn, maskOf, SameButPosition, SameButCounts}
 use Rattle.ranks.proofs.Tests.{or, or-left, or-right}
 use Rattle.ranks.proofs.Ranks.{Agree}
 use Rattle.ranks.proofs.ByRank.{RankedTable, by-rank-listed, length-by-rank, in-list, same-list}
@@ -124,20 +123,35 @@ pub mask-none : 0 ≡ maskOf []
 unfolding mask range isIn
 mask-none = refl
 
--- ---- What an operation does
+-- ---- Records
 
--- the outcome r of an operation on the queue in the slot: the queue afterwards, the value, the tasks woken and what becomes of them
-pub record OnLists (s : State) (slot : ℕ) (r : Outcome State) (e : Effect) (f : Task → Task) : Type 0 where
-  pub queue : contents (r .after) slot ≡ e .queue
-  pub others : (i : ℕ) → i < 16 → (i ≡ slot → ⊥) → contents (r .after) i ≡ contents s i
-  pub value : r .answer .value ≡ e .value
-  pub woken : r .answer .woken ≡ maskOf (e .woken)
-  pub tasks : (k : ℕ) → k < 32 → isIn k (e .woken) ≡ true → taskAt (r .after) k ≡ f (taskAt s k)
+-- a record that is the same, and one that is f's or at another position
+pub same-task : (w w′ : Task) → w′ ≡ w → SameButPosition w w′
+same-task w w′ e = subst (SameButPosition w) (sym e) refl
 
--- no task is in the empty list
-pub none-in : {P : Type 0} (k : ℕ) → isIn k [] ≡ true → P
-unfolding isIn
-none-in k e = absurd (false≢true e)
+pub moved-task : (f own : Task → Task) (w w′ : Task) (b : Bool) (p : Position) → SameButPosition (own w) (f w) → w′ ≡ (if b then f w else moveTask p w)
+    → SameButPosition (if b then own w else w) w′
+moved-task f own w w′ true p h e = subst (SameButPosition (own w)) (sym e) h
+moved-task f own w w′ false p h e = subst (SameButPosition w) (sym e) refl
+
+-- a queue that has other waiters alone
+pub own-kept : (b : Bool) (n : ℕ) (q q′ : Queue) → q′ ≡ withWaiters n q → SameButCounts (if b then q else q) q′
+own-kept true n q q′ e = subst (SameButCounts q) (sym e) refl
+own-kept false n q q′ e = subst (SameButCounts q) (sym e) refl
+
+changed-queue : (f own : Queue → Queue) (b : Bool) (q q′ : Queue) → SameButCounts (own q) (f q) → q′ ≡ (if b then f q else q)
+    → SameButCounts (if b then own q else q) q′
+changed-queue f own true q q′ h e = subst (SameButCounts (own q)) (sym e) h
+changed-queue f own false q q′ h e = subst (SameButCounts q) (sym e) refl
+
+-- the queue in the slot is changed by h, which is own but for its counts
+pub changed-queues : {s : State} (g : SoundFacts s) (slot : ℕ) (slot< : slot < 16) (s′ : State) (z′ : Sized s′) (h own : Queue → Queue)
+    → s′ .queues ≡ mapWithIndex (atIndex slot h) (s .queues) → ((q : Queue) → SameButCounts (own q) (h q)) → (i : ℕ) → i < 16
+    → SameButCounts (atIndex slot own i (queueAt s i)) (queueAt s′ i)
+changed-queues {s} g slot slot< s′ z′ h own e counts i i< =
+    changed-queue h own (eqb i slot) _ _ (counts (queueAt s i)) (CountChange.after s s′ g z′ slot slot< h e i i<)
+
+-- ---- Lists and counts
 
 module _ {s : State} (g : SoundFacts s) (slot : ℕ) (slot< : slot < 16) where
   pub waiters-mask : mask (waitersOf s slot) ≡ maskOf (contents s slot .waiters)

@@ -1,19 +1,19 @@
--- A task that leave-lists its queue, on the queues as lists. Assumes nothing.
+-- A task that leaves its queue, on the queues as lists. Assumes nothing.
 use Prim.Native.Nat.{ℕ, suc, _-_, _<_}
 use native.Mathlib.Omega.{arith}
 use mathlib.Core.Path.{_≡_, refl, sym, ap, _∙_, subst}
-use mathlib.Core.Bool.{not}
+use mathlib.Core.Bool.{true, false, not}
 use mathlib.Core.Logic.{⊎-elim}
 use mathlib.Core.List.{List, _∷_}
 use lib.Dec.{eqb}
 use borrow.Author.Tests.{ne-eqb}
-use Rattle.ranks.specs.Lists.{keep}
+use Rattle.ranks.specs.Lists.{if_then_else_, keep}
 use Rattle.ranks.specs.Position.{noQueue}
 use Rattle.ranks.specs.Steps.{takenOut, byRank}
 use Rattle.records.specs.Records.{Queue, Task, State, queueAt, taskAt, freshTask}
-use Rattle.records.specs.Changes.{moveTask}
+use Rattle.records.specs.Changes.{withWaiters, moveTask}
 use Rattle.specification.specs.Lookup.{leave}
-use Rattle.theorems.specs.QueueLists.{contents}
+use Rattle.theorems.specs.QueueLists.{contents, SameButPosition}
 use Rattle.ranks.proofs.Tests.{same?}
 use Rattle.ranks.proofs.Ranks.{out-itself}
 use Rattle.ranks.proofs.ByRank.{Stands, Changed, keep-all, by-rank-listed, length-by-rank, taken-first, taken-out-list}
@@ -21,13 +21,14 @@ use Rattle.specification.proofs.SoundFacts.{Sized, SoundFacts}
 use Rattle.theorems.proofs.FieldsInRange.{tasks-ranked}
 use Rattle.theorems.proofs.CountChange
 use Rattle.theorems.proofs.SoundLeave.{fewer}
-use Rattle.theorems.proofs.ListSteps.{stepped-here, stepped-other, stepped-changed, taken-agree}
-use Rattle.theorems.proofs.ListContents.{same-waiters, kept-messages}
+use Rattle.theorems.proofs.ListSteps.{stepped-at, stepped-changed, taken-agree}
+use Rattle.theorems.proofs.ListContents.{same-waiters, kept-messages, moved-task}
 
 -- Task t has left the queue of the slot, where it stood at the rank.
 pub record Leaves (s : State) (t slot rank : ℕ) (f : Task → Task) (s′ : State) : Type 0 where
-  pub leaver : taskAt s′ t ≡ f (taskAt s t)
-  pub stayers : (j : ℕ) → j < 32 → (j ≡ t → ⊥) → taskAt s′ j ≡ moveTask (takenOut t slot rank j (taskAt s j .position)) (taskAt s j)
+  pub pool : s′ .pool ≡ s .pool
+  pub queues : (i : ℕ) → i < 16 → queueAt s′ i ≡ withWaiters (queueAt s′ i .waiters) (queueAt s i)
+  pub tasks : (k : ℕ) → k < 32 → SameButPosition (if eqb k t then f (taskAt s k) else taskAt s k) (taskAt s′ k)
   pub messages : (i : ℕ) → i < 16 → contents s′ i .messages ≡ contents s i .messages
   pub others : (i : ℕ) → i < 16 → (i ≡ slot → ⊥) → contents s′ i .waiters ≡ contents s i .waiters
   pub waiters : (i : ℕ) → i < 16 → contents s′ i .waiters ≡ keep (λ k. not (eqb k t)) (contents s i .waiters)
@@ -78,8 +79,9 @@ module _ {s : State} (g : SoundFacts s) (t slot rank : ℕ) (f : Task → Task) 
   unfolding leave contents
   leave-lists =
       record {
-        leaver = stepped-here (tasks-ranked s g slot slot<) moveTask t f (takenOut t slot rank) (stands .0);
-        stayers = stepped-other (tasks-ranked s g slot slot<) moveTask t f (takenOut t slot rank);
+        pool = refl;
+        queues = CountChange.of-each s s′ g z′ slot slot< fewer refl (λ i q. q ≡ withWaiters (q .waiters) (queueAt s i)) refl (λ i h. refl);
+        tasks = λ k h. moved-task f f _ _ (eqb k t) _ refl (stepped-at (tasks-ranked s g slot slot<) moveTask t f (takenOut t slot rank) k h);
         messages = kept-messages g slot slot< s′ z′ fewer refl refl refl;
         others = other;
         waiters = left-out;

@@ -1,35 +1,53 @@
--- What each operation on a queue, and create, does to the queues as lists. Assumes nothing.
+-- What each operation on a queue, create and ident do to the queues as lists. Assumes nothing.
 use Prim.Native.Nat.{ℕ, suc, _≤_, _<_}
 use native.Mathlib.Nat.{le-refl}
 use native.Mathlib.Omega.{arith}
-use mathlib.Core.Path.{_≡_, refl, sym}
+use mathlib.Core.Path.{_≡_, refl, sym, _∙_}
+use mathlib.Core.Bool.{Bool, true, false}
 use mathlib.Core.Logic.{⊎-elim}
 use mathlib.Core.List.{List, [], _∷_, _++_}
-use lib.ListN.{length, drop-of-length-le}
+use lib.ListN.{length, getD, drop-of-length-le}
 use lib.Seq.{take-all}
 use borrow.Author.Tests.{leb-false}
+use Rattle.ranks.specs.Lists.{mapWithIndex, firstThat}
 use Rattle.records.specs.Layout.{slotOf}
-use Rattle.records.specs.Records.{Queue, State, queueAt, bufferAt, taskAt}
-use Rattle.records.specs.Changes.{withMessage}
+use Rattle.records.specs.Records.{Queue, State, queueAt, bufferAt, freeQueue}
+use Rattle.specification.specs.Answer.{Outcome}
 use Rattle.specification.specs.Call.{Operation, delete, send, urgent, broadcast, receive, getNumberPending, flush, onQueue, call}
 use Rattle.specification.specs.Create
+use Rattle.specification.specs.Ident
 use Rattle.specification.specs.Step.{operationRefusals, directiveRefusals, operationEffect, effect}
-use Rattle.theorems.specs.QueueLists.{contents, onList, wokenTask}
+use Rattle.theorems.specs.QueueLists.{contents, onList, taskAfter, queueAfter, OperationOnLists, Lowest, CreateOnLists, IdentOnLists}
+use Rattle.ranks.proofs.Lists.{at-mapped, length-mapped, first-true, first-least}
 use Rattle.specification.proofs.Refused.{None}
 use Rattle.specification.proofs.Rules.{Free, queue-rules}
 use Rattle.specification.proofs.SoundFacts.{Sized, SoundFacts}
+use Rattle.theorems.proofs.CountChange
 use Rattle.theorems.proofs.SoundSubmit.{slot-below, submitted}
 use Rattle.theorems.proofs.SoundCreate.{slot-found, create-sound}
 use Rattle.theorems.proofs.SoundCall.{ReadyCaller, Accepted, effect-sound}
-use Rattle.theorems.proofs.ListContents.{kept-messages, kept-waiters, both-lists, count-messages, OnLists}
+use Rattle.theorems.proofs.ListContents.{kept-messages, kept-waiters, both-lists, count-messages}
 use Rattle.theorems.proofs.ListClear.{broadcast-lists, delete-lists, flush-lists, pending-lists}
 use Rattle.theorems.proofs.ListSubmit.{submit-lists}
-use Rattle.theorems.proofs.ListReceive.{receive-lists, receiver-has}
+use Rattle.theorems.proofs.ListReceive.{receive-lists}
 
 -- what an operation does, by the definitions on lists
-abbrev pub OperationFacts : State → (caller slot : ℕ) → Operation → Type 0
-OperationFacts s caller slot o =
-    OnLists s slot (operationEffect s caller slot o) (onList s caller slot o (contents s slot)) (wokenTask o)
+abbrev pub OperationFacts : State → (caller slot : ℕ) → Operation → Outcome State → Type 0
+OperationFacts s caller slot o r =
+    OperationOnLists s slot r (onList s caller slot o (contents s slot)) (taskAfter caller o (contents s slot)) (queueAfter o)
+
+-- the first record that passes is the lowest
+first-lowest : {A : Type 0} (test : ℕ → A → Bool) (xs : List A) (a : A) → firstThat test xs < length xs
+    → Lowest (λ i. test i (getD xs i a)) (firstThat test xs)
+first-lowest test xs a h =
+    record {
+      passes = sym (at-mapped test xs _ a false h) ∙ first-true (mapWithIndex test xs) (omega (arith, length-mapped test xs));
+      least = λ i lt. go i lt (test i (getD xs i a)) refl;
+    }
+  where
+    go : (i : ℕ) → i < firstThat test xs → (b : Bool) → test i (getD xs i a) ≡ b → b ≡ false
+    go i lt true e = absurd (let le = first-least (mapWithIndex test xs) i (at-mapped test xs i a false (omega arith) ∙ e) in omega arith)
+    go i lt false e = refl
 
 -- a buffer has 120 bytes
 abbrev pub WholeBuffers : State → Type 0
@@ -37,8 +55,8 @@ WholeBuffers s = (b : ℕ) → b < 64 → length (bufferAt s b .bytes) ≡ 120
 
 module _ {s : State} (g : SoundFacts s) where
   effect-lists : (caller slot : ℕ) (o : Operation) → slot < 16 → ReadyCaller s caller → None (operationRefusals s caller slot o) → WholeBuffers s
-      → Sized (operationEffect s caller slot o .after) → OperationFacts s caller slot o
-  unfolding operationEffect operationRefusals onList wokenTask
+      → Sized (operationEffect s caller slot o .after) → OperationFacts s caller slot o (operationEffect s caller slot o)
+  unfolding operationEffect operationRefusals onList taskAfter queueAfter
   effect-lists caller slot delete h r n long z′ = delete-lists g slot h z′
   effect-lists caller slot (send message) h r n long z′ =
       let le : length (contents s slot .messages) ≤ queueAt s slot .pending = omega (arith, count-messages g slot h) in
@@ -57,26 +75,40 @@ module _ {s : State} (g : SoundFacts s) where
   sized-after caller id o a = effect-sound s g (call caller (onQueue id o)) a .sized
 
   -- every operation that is not refused
-  pub operation-lists : (caller id : ℕ) (o : Operation) → WholeBuffers s → Accepted s (call caller (onQueue id o)) → OperationFacts s caller (slotOf id) o
+  pub operation-lists : (caller id : ℕ) (o : Operation) → WholeBuffers s → Accepted s (call caller (onQueue id o))
+      → OperationFacts s caller (slotOf id) o (operationEffect s caller (slotOf id) o)
   unfolding Accepted directiveRefusals
   operation-lists caller id o long a = effect-lists caller (slotOf id) o (slot-below id) (a .0) (a .1 .1) long (sized-after caller id o a)
 
-  -- a receive that finds a message: the caller has it
-  pub receiver-lists : (caller id option ticks : ℕ) → Accepted s (call caller (onQueue id (receive option ticks)))
-      → (message : List ℕ) (rest : List (List ℕ)) → contents s (slotOf id) .messages ≡ message ∷ rest
-      → taskAt (operationEffect s caller (slotOf id) (receive option ticks) .after) caller ≡ withMessage message (taskAt s caller)
-  unfolding Accepted operationEffect
-  receiver-lists caller id option ticks a =
-      receiver-has g caller (slotOf id) option ticks (a .0 .below) (a .0 .ready) (slot-below id) (sized-after caller id (receive option ticks) a)
-
   -- a queue that is created has no message and no waiter, as its free slot had none
-  pub create-lists : (share name limit maxSize attributes : ℕ) → None (Create.refusals s share name limit maxSize attributes) → (i : ℕ) → i < 16
-      → contents (Create.effect s (Create.freeSlot s share) name limit maxSize attributes .after) i ≡ contents s i
-  unfolding Create.refusals Create.effect
-  create-lists share name limit maxSize attributes n i i< =
+  pub create-lists : (share name limit maxSize attributes : ℕ) → None (Create.refusals s share name limit maxSize attributes)
+      → CreateOnLists s share name limit maxSize attributes (Create.effect s (Create.freeSlot s share) name limit maxSize attributes)
+  unfolding Create.refusals Create.effect Create.freeSlot
+  create-lists share name limit maxSize attributes n =
       let lt : Create.freeSlot s share < 16 = leb-false _ _ (n .1 .1 .1 .1 .0) in
       let was : Free (queueAt s (Create.freeSlot s share)) =
       ⊎-elim (λ l. absurd (let a = l .live in let b = slot-found s (g .sized) share lt .0 in omega arith)) (λ f. f) (queue-rules _ (g .queue _ lt)) in
       let z′ = create-sound s g share name limit maxSize attributes n .sized in
       let new : Queue → Queue = λ q. Create.newQueue (suc (q .generation)) name limit maxSize attributes in
-      both-lists (kept-messages g _ lt _ z′ new refl refl (sym (was .pending)) i i<) (kept-waiters g _ lt _ z′ new refl refl (sym (was .waiters)) i i<)
+      record {
+        slot = Create.freeSlot s share;
+        lowest = first-lowest _ (s .queues) (freeQueue 0) (omega (arith, g .sized .queues));
+        answer = refl;
+        queues = CountChange.after s _ g z′ _ lt new refl;
+        pool = refl;
+        tasks = refl;
+        lists =
+            λ i i<.
+            both-lists (kept-messages g _ lt _ z′ new refl refl (sym (was .pending)) i i<) (kept-waiters g _ lt _ z′ new refl refl (sym (was .waiters)) i i<);
+      }
+
+  pub ident-lists : (caller name share : ℕ) → None (Ident.refusals s caller name share)
+      → IdentOnLists s caller name share (Ident.effect s (Ident.named s caller name share) .answer)
+  unfolding Ident.refusals Ident.effect Ident.named
+  ident-lists caller name share n =
+      let lt : Ident.named s caller name share < 16 = leb-false _ _ (n .1 .1 .0) in
+      record {
+        slot = Ident.named s caller name share;
+        lowest = first-lowest _ (s .queues) (freeQueue 0) (omega (arith, g .sized .queues));
+        answer = refl;
+      }

@@ -6,6 +6,7 @@ use mathlib.Core.Path.{_≡_, refl, sym, ap, _∙_, subst}
 use mathlib.Core.Bool.{Bool, true, false}
 use mathlib.Core.Logic.{inr, ⊎-elim}
 use mathlib.Core.List.{List, [], _∷_, _++_, map}
+use lib.Dec.{eqb}
 use lib.ListN.{length, getD, take, drop, length-take, drop-of-length-le}
 use lib.Seq.{take-all}
 use borrow.Author.Tests.{ltb-true, ltb-false, lt-ltb, le-ltb}
@@ -18,7 +19,7 @@ use Rattle.specification.specs.Answer.{Outcome}
 use Rattle.specification.specs.Call.{receive}
 use Rattle.specification.specs.Lookup.{firstMessage, hasMessage}
 use Rattle.specification.specs.Receive.{received, waitRank, waiting, effect}
-use Rattle.theorems.specs.QueueLists.{Contents, messageIn, contents, insertByPriority, Effect, leaves, takeMessage, onList}
+use Rattle.theorems.specs.QueueLists.{Contents, messageIn, contents, insertByPriority, leaves, waits, takeMessage, onList, taskAfter, OperationOnLists}
 use Rattle.ranks.proofs.Lists.{at-mapped}
 use Rattle.ranks.proofs.Ranks.{in-itself, out-itself}
 use Rattle.ranks.proofs.ByRank.{Stands, Changed, alike, by-rank-listed, length-by-rank, inserted-list, taken-table, taken-first}
@@ -26,10 +27,10 @@ use Rattle.specification.proofs.Rules.{size-at-most, Ready, buffer-rules}
 use Rattle.specification.proofs.SoundFacts.{Sized, SoundFacts}
 use Rattle.theorems.proofs.FieldsInRange.{buffers-ranked, tasks-ranked}
 use Rattle.theorems.proofs.CountChange
-use Rattle.theorems.proofs.KeptQueues.{at-here, at-both, live-of}
+use Rattle.theorems.proofs.KeptQueues.{at-both, live-of}
 use Rattle.theorems.proofs.SoundReceive.{is-ready, first-holds, none-held, waitRank-bound, ahead-of, behind-of}
-use Rattle.theorems.proofs.ListSteps.{map-by-rank, stepped-other, stepped-changed, taken-agree, inserted-agree}
-use Rattle.theorems.proofs.ListContents.{same-messages, same-waiters, kept-messages, both-lists, no-messages, count-waiters, mask-none, OnLists, none-in}
+use Rattle.theorems.proofs.ListSteps.{map-by-rank, stepped-at, stepped-other, stepped-changed, taken-agree, inserted-agree}
+use Rattle.theorems.proofs.ListContents.{same-messages, same-waiters, kept-messages, both-lists, no-messages, count-waiters, mask-none, same-task, moved-task, changed-queues}
 
 -- a ready task is in no queue
 at-no-queue : {w : Task} → Ready w → w .position ≡ noQueue
@@ -97,9 +98,6 @@ module _ {s : State} (g : SoundFacts s) (caller slot b : ℕ) (caller< : caller 
       ∙ at-both (λ k w. w .position ≡ taskAt s k .position) caller (withMessage message) j (taskAt s j)
       (λ e. subst (λ (k : ℕ). noQueue ≡ taskAt s k .position) (sym e) (sym (at-no-queue rdy))) (λ _. refl)))
 
-  pub receiver : taskAt s′ caller ≡ withMessage message (taskAt s caller)
-  receiver = task-after caller caller< ∙ at-here caller (withMessage message) (taskAt s caller)
-
   -- the message has the length that its buffer says
   whole : length (bufferAt s b .bytes) ≡ 120 → bufferAt s b .messageLength ≡ length message
   whole long =
@@ -110,16 +108,19 @@ module _ {s : State} (g : SoundFacts s) (caller slot b : ℕ) (caller< : caller 
       omega (arith, length-take (bufferAt s b .messageLength) (bufferAt s b .bytes)))
       (buffer-rules s b _ (g .buffer b (stands .0)))
 
-  pub received-lists : length (bufferAt s b .bytes) ≡ 120 → (f : Task → Task)
-      → OnLists s slot (received s caller slot b) (leaves (contents s′ slot .messages) (contents s slot .waiters) [] (length message)) f
+  pub received-lists : length (bufferAt s b .bytes) ≡ 120
+      → OperationOnLists s slot (received s caller slot b) (leaves (contents s′ slot .messages) (contents s slot .waiters) [] (length message))
+      (λ k w. if eqb k caller then withMessage message w else w) (λ q. q)
   unfolding received
-  received-lists long f =
+  received-lists long =
       record {
         queue = both-lists refl (waiters slot slot<);
         others = λ i i< ne. both-lists (other i i< ne) (waiters i i<);
+        status = refl;
         value = whole long;
         woken = mask-none;
-        tasks = λ k h. none-in k;
+        tasks = λ k h. same-task _ _ (task-after k h);
+        queues = changed-queues g slot slot< s′ z′ less (λ q. q) refl (λ q. refl);
       }
 
 -- ---- A caller that waits
@@ -138,25 +139,33 @@ module _ {s : State} (g : SoundFacts s) (caller slot rank ticks : ℕ) (caller< 
       stepped-changed (tasks-ranked s g slot slot<) moveTask caller (waitingAt (positionAt slot rank) ticks) (inserted caller slot rank) (λ p w. refl)
       (λ w. sym (in-itself caller slot rank (w .position)))
 
-  pub waiting-lists : (f : Task → Task)
-      → OnLists s slot (waiting s caller slot rank ticks)
-      (leaves (contents s slot .messages) (take rank (contents s slot .waiters) ++ caller ∷ drop rank (contents s slot .waiters)) [] 0) f
+  joined : contents w′ slot .waiters ≡ take rank (contents s slot .waiters) ++ caller ∷ drop rank (contents s slot .waiters)
   unfolding waiting contents
-  waiting-lists f =
+  joined =
+      ap (λ (n : ℕ). byRank (λ (w : Task). w .position) slot n (w′ .tasks))
+      (ap (λ (q : Queue). q .waiters) (CountChange.here s w′ g z′ slot slot< more refl))
+      ∙ inserted-list (tasks-ranked s g slot slot<) (w′ .tasks) (z′ .tasks) caller rank caller< (rdy .queue) le joins
+
+  pub waiting-lists : (ws : List ℕ) → take rank (contents s slot .waiters) ++ caller ∷ drop rank (contents s slot .waiters) ≡ ws
+      → contents s slot .messages ≡ []
+      → OperationOnLists s slot (waiting s caller slot rank ticks) (waits ws) (λ k w. if eqb k caller then waitingAt (w .position) ticks w else w) (λ q. q)
+  unfolding waiting
+  waiting-lists ws at-rank none =
       record {
-        queue =
-            both-lists (kept slot slot<)
-            (ap (λ (n : ℕ). byRank (λ (w : Task). w .position) slot n (w′ .tasks))
-            (ap (λ (q : Queue). q .waiters) (CountChange.here s w′ g z′ slot slot< more refl))
-            ∙ inserted-list (tasks-ranked s g slot slot<) (w′ .tasks) (z′ .tasks) caller rank caller< (rdy .queue) le joins);
+        queue = both-lists (kept slot slot< ∙ none) (joined ∙ at-rank);
         others =
             λ i i< ne.
             both-lists (kept i i<)
             (same-waiters g i i< w′ z′ (ap (λ (q : Queue). q .waiters) (CountChange.other s w′ g z′ slot slot< more refl i i< ne))
             (inserted-agree (tasks-ranked s g i i<) (w′ .tasks) caller slot rank ne (rdy .queue) joins));
+        status = refl;
         value = refl;
         woken = mask-none;
-        tasks = λ k h. none-in k;
+        tasks =
+            λ k h.
+            moved-task (waitingAt (positionAt slot rank) ticks) (λ w. waitingAt (w .position) ticks w) _ _ (eqb k caller) _ refl
+            (stepped-at (tasks-ranked s g slot slot<) moveTask caller (waitingAt (positionAt slot rank) ticks) (inserted caller slot rank) k h);
+        queues = changed-queues g slot slot< w′ z′ more (λ q. q) refl (λ q. refl);
       }
     where
       kept : (i : ℕ) → i < 16 → contents w′ i .messages ≡ contents s i .messages
@@ -210,61 +219,31 @@ module _ {s : State} (g : SoundFacts s) (caller slot : ℕ) (slot< : slot < 16) 
 
 -- ---- Receive
 
-module _ (s : State) (caller slot option ticks : ℕ) (q : Contents) where
-  take-first : (m : List ℕ) (ms : List (List ℕ)) → q .messages ≡ m ∷ ms → leaves ms (q .waiters) [] (length m) ≡ onList s caller slot (receive option ticks) q
-  unfolding onList takeMessage
-  take-first m ms e = rw e
-
-  take-none : (ws : List ℕ)
-      → ws ≡ (if hasPriority (queueAt s slot) then insertByPriority (λ t. taskAt s t .priority) caller (q .waiters) else q .waiters ++ (caller ∷ []))
-      → q .messages ≡ [] → leaves (q .messages) ws [] 0 ≡ onList s caller slot (receive option ticks) q
-  unfolding onList takeMessage
-  take-none ws p e = rw (e, p)
-
 module _ {s : State} (g : SoundFacts s) (caller slot option ticks : ℕ) (caller< : caller < 32) (ready : isWaiting (taskAt s caller) ≡ false) (slot< : slot < 16) where
-  abbrev Receives : Outcome State → Type 0
-  Receives r =
-      OnLists s slot r (onList s caller slot (receive option ticks) (contents s slot)) (λ w. w)
+  -- where ms are the messages
+  abbrev Receives : (ms : List (List ℕ)) → Outcome State → Type 0
+  Receives ms r =
+      let q : Contents = record { messages = ms; waiters = contents s slot .waiters } in
+      OperationOnLists s slot r (onList s caller slot (receive option ticks) q) (taskAfter caller (receive option ticks) q) (λ q. q)
 
   rdy : Ready (taskAt s caller)
   rdy = is-ready s g caller caller< ready
 
-  pub receive-lists : ((b : ℕ) → b < 64 → length (bufferAt s b .bytes) ≡ 120) → Sized (effect s caller slot ticks .after) → Receives (effect s caller slot ticks)
-  unfolding effect
+  pub receive-lists : ((b : ℕ) → b < 64 → length (bufferAt s b .bytes) ≡ 120) → Sized (effect s caller slot ticks .after)
+      → Receives (contents s slot .messages) (effect s caller slot ticks)
+  unfolding effect onList takeMessage taskAfter
   receive-lists long = go (hasMessage s slot) refl
     where
       go : (b : Bool) → hasMessage s slot ≡ b
           → Sized ((if b then received s caller slot (firstMessage s slot) else waiting s caller slot (waitRank s caller slot) ticks) .after)
-          → Receives (if b then received s caller slot (firstMessage s slot) else waiting s caller slot (waitRank s caller slot) ticks)
+          → Receives (contents s slot .messages)
+          (if b then received s caller slot (firstMessage s slot) else waiting s caller slot (waitRank s caller slot) ticks)
       go true e z′ =
           let h : firstMessage s slot < 64 = ltb-true _ _ e in
           let (q, r) = first-holds s (g .sized) slot h in
-          subst (λ (c : Effect). OnLists s slot (received s caller slot (firstMessage s slot)) c (λ w. w))
-          (take-first s caller slot option ticks (contents s slot) _ _ (messages g caller slot _ caller< rdy slot< (h, q, r) z′))
-          (received-lists g caller slot _ caller< rdy slot< (h, q, r) z′ (long _ h) (λ w. w))
+          subst (λ (ms : List (List ℕ)). Receives ms (received s caller slot (firstMessage s slot)))
+          (sym (messages g caller slot _ caller< rdy slot< (h, q, r) z′)) (received-lists g caller slot _ caller< rdy slot< (h, q, r) z′ (long _ h))
       go false e z′ =
           let none = no-messages s slot (none-held s g slot slot< (ltb-false _ _ e)) in
-          subst (λ (c : Effect). OnLists s slot (waiting s caller slot (waitRank s caller slot) ticks) c (λ w. w))
-          (take-none s caller slot option ticks (contents s slot) _ (in-place g caller slot slot<) none)
-          (waiting-lists g caller slot (waitRank s caller slot) ticks caller< rdy slot< (waitRank-bound s g caller slot slot<) z′ (λ w. w))
-
-  -- a caller that finds a message has it
-  pub receiver-has : Sized (effect s caller slot ticks .after) → (message : List ℕ) (rest : List (List ℕ)) → contents s slot .messages ≡ message ∷ rest
-      → taskAt (effect s caller slot ticks .after) caller ≡ withMessage message (taskAt s caller)
-  unfolding effect
-  receiver-has z message rest m = go (hasMessage s slot) refl z
-    where
-      go : (b : Bool) → hasMessage s slot ≡ b
-          → Sized ((if b then received s caller slot (firstMessage s slot) else waiting s caller slot (waitRank s caller slot) ticks) .after)
-          → taskAt ((if b then received s caller slot (firstMessage s slot) else waiting s caller slot (waitRank s caller slot) ticks) .after) caller
-          ≡ withMessage message (taskAt s caller)
-      go true e z′ =
-          let h : firstMessage s slot < 64 = ltb-true _ _ e in
-          let (q, r) = first-holds s (g .sized) slot h in
-          let first = messages g caller slot _ caller< rdy slot< (h, q, r) z′ in
-          let same : messageIn (bufferAt s (firstMessage s slot)) ≡ message = cc in
-          receiver g caller slot _ caller< rdy slot< (h, q, r) z′ ∙ ap (λ (m : List ℕ). withMessage m (taskAt s caller)) same
-      go false e z′ =
-          let none = no-messages s slot (none-held s g slot slot< (ltb-false _ _ e)) in
-          let z : _≡_ {A = ℕ} 0 1 = cc in
-          absurd (omega arith)
+          subst (λ (ms : List (List ℕ)). Receives ms (waiting s caller slot (waitRank s caller slot) ticks)) (sym none)
+          (waiting-lists g caller slot (waitRank s caller slot) ticks caller< rdy slot< (waitRank-bound s g caller slot slot<) z′ _ (in-place g caller slot slot<) none)

@@ -58,7 +58,7 @@ stepped position move t f step xs = mapWithIndex (λ j x. if eqb j t then f x el
 
 module _ {A : Type 0} {position : A → Position} {a : A} {N i n : ℕ} {xs : List A} (table : RankedTable position a N i n xs)
     (move : Position → A → A) (t : ℕ) (f : A → A) (step : ℕ → Position → Position) where
-  stepped-at : (j : ℕ) → j < N
+  pub stepped-at : (j : ℕ) → j < N
       → getD (stepped position move t f step xs) j a ≡ (if eqb j t then f (getD xs j a) else move (step j (position (getD xs j a))) (getD xs j a))
   stepped-at j h = at-mapped (λ j x. if eqb j t then f x else move (step j (position x)) x) xs j a a (omega (arith, table .long))
 

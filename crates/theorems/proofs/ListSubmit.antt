@@ -7,17 +7,17 @@ use mathlib.Core.List.{List, [], _∷_, _++_, map}
 use lib.Dec.{eqb}
 use lib.ListN.{take, drop}
 use lib.Seq.{take-append-seam}
-use borrow.Author.Tests.{eqb-true, ltb-true, ltb-false}
+use borrow.Author.Tests.{ltb-true, ltb-false}
 use Rattle.ranks.specs.Lists.{if_then_else_}
 use Rattle.ranks.specs.Position.{positionAt}
 use Rattle.ranks.specs.Steps.{inserted, byRank}
 use Rattle.records.specs.Split.{shareOfSlot}
-use Rattle.records.specs.Records.{Queue, Buffer, Task, State, queueAt, bufferAt, taskAt, freeBuffer, freshTask}
+use Rattle.records.specs.Records.{Queue, Buffer, State, queueAt, bufferAt, taskAt, freeBuffer, freshTask}
 use Rattle.records.specs.Changes.{withPending, moveBuffer, messageBuffer, withMessage}
 use Rattle.specification.specs.Answer.{Outcome}
 use Rattle.specification.specs.Lookup.{firstWaiter, hasWaiter, leave}
 use Rattle.specification.specs.Submit.{freeBufferOf, delivered, enqueued, effect}
-use Rattle.theorems.specs.QueueLists.{Contents, Effect, messageIn, contents, leaves, submit, isIn}
+use Rattle.theorems.specs.QueueLists.{messageIn, contents, leaves, submit, isIn, SameButPosition, OperationOnLists}
 use Rattle.ranks.proofs.Ranks.{in-itself}
 use Rattle.ranks.proofs.ByRank.{Changed, inserted-list}
 use Rattle.specification.proofs.SoundFacts.{Sized, SoundFacts}
@@ -25,7 +25,7 @@ use Rattle.theorems.proofs.FieldsInRange.{buffers-ranked}
 use Rattle.theorems.proofs.CountChange
 use Rattle.theorems.proofs.SoundSubmit.{first-waits, none-waits, free-found, Submitted}
 use Rattle.theorems.proofs.ListSteps.{map-put, map-by-rank, stepped-here, stepped-other, stepped-changed, inserted-agree}
-use Rattle.theorems.proofs.ListContents.{same-messages, kept-waiters, both-lists, no-waiters, mask-of, mask-none, OnLists, none-in}
+use Rattle.theorems.proofs.ListContents.{same-messages, kept-waiters, both-lists, no-waiters, mask-of, mask-none, own-kept, changed-queues}
 use Rattle.theorems.proofs.ListLeave.{Leaves, leave-lists}
 
 -- ---- A message that is queued
@@ -75,17 +75,18 @@ module _ {s : State} (g : SoundFacts s) (b slot rank : ℕ) (message : List ℕ)
       same-messages g i i< s′ z′ (ap (λ (q : Queue). q .pending) (CountChange.other s s′ g z′ slot slot< more refl i i< ne))
       (inserted-agree (buffers-ranked s g i i<) (s′ .pool) b slot rank ne free changed) (held i)
 
-  pub enqueued-lists : (f : Task → Task)
-      → OnLists s slot (enqueued s b slot rank message)
-      (leaves (take rank (contents s slot .messages) ++ message ∷ drop rank (contents s slot .messages)) (contents s slot .waiters) [] 0) f
+  pub enqueued-lists : (ms : List (List ℕ)) → ms ≡ take rank (contents s slot .messages) ++ message ∷ drop rank (contents s slot .messages)
+      → contents s slot .waiters ≡ [] → OperationOnLists s slot (enqueued s b slot rank message) (leaves ms [] [] 0) (λ k w. w) (λ q. q)
   unfolding enqueued
-  enqueued-lists f =
+  enqueued-lists ms at-rank none =
       record {
-        queue = both-lists messages (waiters slot slot<);
+        queue = both-lists (messages ∙ sym at-rank) (waiters slot slot< ∙ none);
         others = λ i i< ne. both-lists (other i i< ne) (waiters i i<);
+        status = refl;
         value = refl;
         woken = mask-none;
-        tasks = λ k h. none-in k;
+        tasks = λ k h. refl;
+        queues = changed-queues g slot slot< s′ z′ more (λ q. q) refl (λ q. refl);
       }
     where
       waiters : (i : ℕ) → i < 16 → contents s′ i .waiters ≡ contents s i .waiters
@@ -98,53 +99,50 @@ unfolding isIn
 alone k t = sym (or-false (eqb k t))
 
 delivered-lists : {s : State} (g : SoundFacts s) (t slot : ℕ) (message : List ℕ) (slot< : slot < 16) → Leaves s t slot 0 (withMessage message) (delivered s t slot message .after)
-    → OnLists s slot (delivered s t slot message)
-    (leaves (contents s slot .messages) (contents (delivered s t slot message .after) slot .waiters) (t ∷ []) 0) (withMessage message)
+    → OperationOnLists s slot (delivered s t slot message)
+    (leaves (contents s slot .messages) (contents (delivered s t slot message .after) slot .waiters) (t ∷ []) 0)
+    (λ k w. if isIn k (t ∷ []) then withMessage message w else w) (λ q. q)
 unfolding delivered
 delivered-lists {s} g t slot message slot< l =
     record {
       queue = both-lists (l .messages slot slot<) refl;
       others = λ i i< ne. both-lists (l .messages i i<) (l .others i i< ne);
+      status = refl;
       value = refl;
       woken = mask-of _ (s .tasks) (freshTask 1) (t ∷ []) (g .sized .tasks) (λ k h. alone k t);
       tasks =
-          λ k h e.
-          subst (λ (n : ℕ). taskAt (leave s t slot 0 (withMessage message)) n ≡ withMessage message (taskAt s n)) (sym (eqb-true k t (alone k t ∙ e))) (l .leaver);
+          λ k h.
+          subst (λ (b : Bool). SameButPosition (if b then withMessage message (taskAt s k) else taskAt s k) (taskAt (leave s t slot 0 (withMessage message)) k))
+          (alone k t) (l .tasks k h);
+      queues = λ i i<. own-kept (eqb i slot) _ _ _ (l .queues i i<);
     }
 
 -- ---- Send and urgent
 
-module _ (enqueue : List (List ℕ) → List (List ℕ)) (q : Contents) where
-  submit-first : (w : ℕ) (ws : List ℕ) → q .waiters ≡ w ∷ ws → leaves (q .messages) ws (w ∷ []) 0 ≡ submit enqueue q
-  unfolding submit
-  submit-first w ws e = rw e
-
-  submit-none : (ms : List (List ℕ)) → enqueue (q .messages) ≡ ms → q .waiters ≡ [] → leaves ms (q .waiters) [] 0 ≡ submit enqueue q
-  unfolding submit
-  submit-none ms p e = rw (e, p)
-
 module _ {s : State} (g : SoundFacts s) (slot rank : ℕ) (message : List ℕ) (slot< : slot < 16) (ok : Submitted s slot message)
     (le : rank ≤ queueAt s slot .pending) (enqueue : List (List ℕ) → List (List ℕ))
     (at-rank : enqueue (contents s slot .messages) ≡ take rank (contents s slot .messages) ++ message ∷ drop rank (contents s slot .messages)) where
-  abbrev Submits : Outcome State → Type 0
-  Submits r = OnLists s slot r (submit enqueue (contents s slot)) (withMessage message)
+  -- where ws are the waiters
+  abbrev Submits : (ws : List ℕ) → Outcome State → Type 0
+  Submits ws r =
+      OperationOnLists s slot r (submit enqueue (record { messages = contents s slot .messages; waiters = ws }))
+      (λ k w. if isIn k (take 1 ws) then withMessage message w else w) (λ q. q)
 
-  pub submit-lists : Sized (effect s slot rank message .after) → Submits (effect s slot rank message)
-  unfolding effect delivered
+  pub submit-lists : Sized (effect s slot rank message .after) → Submits (contents s slot .waiters) (effect s slot rank message)
+  unfolding effect delivered submit isIn
   submit-lists = go (hasWaiter s slot) refl
     where
       go : (b : Bool) → hasWaiter s slot ≡ b
           → Sized ((if b then delivered s (firstWaiter s slot) slot message else enqueued s (freeBufferOf s (shareOfSlot slot)) slot rank message) .after)
-          → Submits (if b then delivered s (firstWaiter s slot) slot message else enqueued s (freeBufferOf s (shareOfSlot slot)) slot rank message)
+          → Submits (contents s slot .waiters)
+          (if b then delivered s (firstWaiter s slot) slot message else enqueued s (freeBufferOf s (shareOfSlot slot)) slot rank message)
       go true e z′ =
           let h : firstWaiter s slot < 32 = ltb-true _ _ e in
           let (q, r) = first-waits s (g .sized) slot h in
           let l = leave-lists g (firstWaiter s slot) slot 0 (withMessage message) slot< (h, q, r) (λ w. refl) z′ in
-          subst (λ (c : Effect). OnLists s slot (delivered s (firstWaiter s slot) slot message) c (withMessage message))
-          (submit-first enqueue (contents s slot) _ _ (l .first refl)) (delivered-lists g _ slot message slot< l)
+          subst (λ (ws : List ℕ). Submits ws (delivered s (firstWaiter s slot) slot message)) (sym (l .first refl)) (delivered-lists g _ slot message slot< l)
       go false e z′ =
           let (free, own) = free-found s (g .sized) (shareOfSlot slot) (ok .free e) in
           let none = no-waiters s slot (none-waits s g slot slot< (ltb-false _ _ e)) in
-          subst (λ (c : Effect). OnLists s slot (enqueued s (freeBufferOf s (shareOfSlot slot)) slot rank message) c (withMessage message))
-          (submit-none enqueue (contents s slot) _ at-rank none)
-          (enqueued-lists g _ slot rank message (ok .free e) slot< free le z′ (withMessage message))
+          subst (λ (ws : List ℕ). Submits ws (enqueued s (freeBufferOf s (shareOfSlot slot)) slot rank message)) (sym none)
+          (enqueued-lists g _ slot rank message (ok .free e) slot< free le z′ _ at-rank none)

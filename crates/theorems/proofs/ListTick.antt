@@ -3,74 +3,58 @@ use Prim.Native.Nat.{ℕ, zero, suc, pred, _+_, _-_, _≤_, _<_}
 use native.Mathlib.Nat.{zero-add}
 use native.Mathlib.Omega.{arith}
 use mathlib.Core.Path.{_≡_, refl, sym, ap, _∙_, subst}
-use mathlib.Core.Bool.{Bool, true, false, not, _&&_, _||_, and-true, and-false, true≢false, false≢true}
+use mathlib.Core.Bool.{Bool, true, false, not, _&&_, _||_, and-true, and-false, false≢true}
 use mathlib.Core.Logic.{⊎-elim}
 use mathlib.Core.List.{List, [], _∷_, map}
 use lib.Dec.{eqb}
 use lib.ListN.{length}
-use borrow.Author.Tests.{eqb-true, eqb-false, ne-eqb}
+use borrow.Author.Tests.{eqb-true, ne-eqb}
 use Rattle.ranks.specs.Lists.{if_then_else_, mapWithIndex, count, keep, range}
-use Rattle.ranks.specs.Position.{Position}
-use Rattle.records.specs.Records.{Task, State, taskAt, freshTask}
-use Rattle.records.specs.Changes.{atIndex, moveTask, withTicks, readyWith}
+use Rattle.records.specs.Records.{Queue, Task, State, queueAt, taskAt, freshTask}
+use Rattle.records.specs.Changes.{atIndex, withWaiters, moveTask, withTicks, readyWith}
 use Rattle.records.specs.Status.{TIMEOUT}
 use Rattle.specification.specs.Lookup.{leave}
 use Rattle.specification.specs.Tick.{expires, isTimed, tickTask, tickTasks, effect}
-use Rattle.theorems.specs.QueueLists.{Contents, contents, isIn, maskOf, expired}
+use Rattle.theorems.specs.QueueLists.{contents, isIn, taskAfterTick, SameButPosition, expired, TickOnLists}
 use Rattle.ranks.proofs.Lists.{at-mapped, length-range, at-range}
 use Rattle.ranks.proofs.Tests.{same?}
-use Rattle.ranks.proofs.Ranks.{Moved, out-moved}
 use Rattle.ranks.proofs.ByRank.{keep-cong, keep-all, keep-keep, alike, by-rank-listed, length-by-rank}
 use Rattle.specification.proofs.SoundFacts.{Sized, SoundFacts}
 use Rattle.theorems.proofs.FieldsInRange.{tasks-ranked}
 use Rattle.theorems.proofs.KeptQueues.{at-here, at-other, at-both}
 use Rattle.theorems.proofs.SoundTick.{expires-waits, tickTask-sound}
 use Rattle.theorems.proofs.ListSteps.{by-number}
-use Rattle.theorems.proofs.ListContents.{same-waiters, same-pool, both-lists, in-some, mask-of}
+use Rattle.theorems.proofs.ListContents.{same-waiters, same-pool, both-lists, in-some, mask-of, same-task}
 use Rattle.theorems.proofs.ListLeave.{leave-lists}
 
 -- ---- A task's record
 
--- the same record, perhaps at another rank of its queue
-record Moves (w w′ : Task) : Type 0 where
-  same : w′ ≡ moveTask (w′ .position) w
-  place : Moved (w .position) (w′ .position)
+moves-on : (u v w : Task) → SameButPosition u v → SameButPosition v w → SameButPosition u w
+moves-on u v w m n = n ∙ ap (moveTask (w .position)) m
 
-moves-to : {w w′ : Task} (p : Position) → Moved (w .position) p → w′ ≡ moveTask p w → Moves w w′
-moves-to {w} p m e = subst (Moves w) (sym e) (record { same = refl; place = m })
-
-stays-put : {w w′ : Task} → w′ ≡ w → Moves w w′
-stays-put {w} e = moves-to (w .position) (refl, λ _. refl) e
-
-moves-on : {u v w : Task} → Moves u v → Moves v w → Moves u w
-moves-on {u} {v} {w} m n =
-    record {
-      same = n .same ∙ ap (moveTask (w .position)) (m .same);
-      place =
-          (n .place .0 ∙ m .place .0, λ z. n .place .1 (m .place .0 ∙ z) ∙ m .place .1 z);
-    }
-
--- what a tick makes of a record, but for its rank
-abbrev afterTick : Task → Task
-afterTick w = if expires w then readyWith TIMEOUT w else withTicks (if isTimed w then w .ticksLeft - 1 else w .ticksLeft) w
-
-tick-moves : {w w′ : Task} → Moves w w′ → Moves (afterTick w) (afterTick w′)
-tick-moves {w} {w′} m = subst (λ (v : Task). Moves (afterTick w) (afterTick v)) (sym (m .same)) (go (expires w))
+tick-moves : (w w′ : Task) → SameButPosition w w′ → SameButPosition (taskAfterTick w) (taskAfterTick w′)
+unfolding taskAfterTick
+tick-moves w w′ m = subst (λ (v : Task). SameButPosition (taskAfterTick w) (taskAfterTick v)) (sym m) (go (expires w) (isTimed w))
   where
-    n : ℕ
-    n = if isTimed w then w .ticksLeft - 1 else w .ticksLeft
-
-    go : (b : Bool) → Moves (if b then readyWith TIMEOUT w else withTicks n w) (if b then readyWith TIMEOUT w else withTicks n (moveTask (w′ .position) w))
-    go true = stays-put refl
-    go false = moves-to (w′ .position) (m .place) refl
+    go : (b c : Bool)
+        → SameButPosition (if b then readyWith TIMEOUT w else if c then withTicks (w .ticksLeft - 1) w else w)
+        (if b then readyWith TIMEOUT w else if c then withTicks (w .ticksLeft - 1) (moveTask (w′ .position) w) else moveTask (w′ .position) w)
+    go true c = refl
+    go false true = refl
+    go false false = refl
 
 -- ---- Some tasks have had their tick
 
 record Ticked (s : State) (had : ℕ → Bool) (s′ : State) : Type 0 where
-  messages : (i : ℕ) → i < 16 → contents s′ i .messages ≡ contents s i .messages
+  pool : s′ .pool ≡ s .pool
+  queues : (i : ℕ) → i < 16 → queueAt s′ i ≡ withWaiters (queueAt s′ i .waiters) (queueAt s i)
   waiters : (i : ℕ) → i < 16 → contents s′ i .waiters ≡ keep (λ k. not (had k && expires (taskAt s k))) (contents s i .waiters)
-  these : (k : ℕ) → k < 32 → had k ≡ true → Moves (afterTick (taskAt s k)) (taskAt s′ k)
-  others : (k : ℕ) → k < 32 → had k ≡ false → Moves (taskAt s k) (taskAt s′ k)
+  tasks : (k : ℕ) → k < 32 → SameButPosition (if had k then taskAfterTick (taskAt s k) else taskAt s k) (taskAt s′ k)
+
+-- what a task's record is, by what the test says of it
+task-of : {s s′ : State} {had : ℕ → Bool} → Ticked s had s′ → (k : ℕ) → k < 32 → (p : Bool) → had k ≡ p
+    → SameButPosition (if p then taskAfterTick (taskAt s k) else taskAt s k) (taskAt s′ k)
+task-of {s} {s′} a k h p e = subst (λ (p : Bool). SameButPosition (if p then taskAfterTick (taskAt s k) else taskAt s k) (taskAt s′ k)) e (a .tasks k h)
 
 -- two tests that say the same of every task keep the same waiters
 keep-same : {s : State} → SoundFacts s → (i : ℕ) → i < 16 → (f h : ℕ → Bool) → ((k : ℕ) → k < 32 → f k ≡ h k)
@@ -85,31 +69,27 @@ in-turn : {s s₁ s₂ : State} {had more : ℕ → Bool} → SoundFacts s → (
     → Ticked s (λ k. had k || more k) s₂
 in-turn {s} {s₁} {s₂} {had} {more} g once a b =
     record {
-      messages = λ i i<. b .messages i i< ∙ a .messages i i<;
+      pool = b .pool ∙ a .pool;
+      queues = λ i i<. b .queues i i< ∙ ap (withWaiters (queueAt s₂ i .waiters)) (a .queues i i<);
       waiters =
           λ i i<.
           b .waiters i i< ∙ ap (keep (λ k. not (more k && expires (taskAt s₁ k)))) (a .waiters i i<)
           ∙ keep-keep _ _ (contents s i .waiters)
           ∙ keep-same g i i< _ _ (λ k h. left k h (had k) (more k) refl refl);
-      these = λ k h. treated k h (had k) (more k) refl refl;
-      others = λ k h. untreated k h (had k) (more k) refl refl;
+      tasks = λ k h. both k h (had k) (more k) refl refl;
     }
   where
     left : (k : ℕ) → k < 32 → (p q : Bool) → had k ≡ p → more k ≡ q
         → (not (p && expires (taskAt s k)) && not (q && expires (taskAt s₁ k))) ≡ not ((p || q) && expires (taskAt s k))
     left k h true true e f = absurd (false≢true (sym (once k h e) ∙ f))
     left k h true false e f = and-true (not (expires (taskAt s k)))
-    left k h false q e f = ap (λ (b : Bool). not (q && b)) (ap expires (a .others k h e .same))
+    left k h false q e f = ap (λ (b : Bool). not (q && b)) (ap expires (task-of a k h false e))
 
-    treated : (k : ℕ) → k < 32 → (p q : Bool) → had k ≡ p → more k ≡ q → p || q ≡ true → Moves (afterTick (taskAt s k)) (taskAt s₂ k)
-    treated k h true q e f t = moves-on (a .these k h e) (b .others k h (once k h e))
-    treated k h false true e f t = moves-on (tick-moves (a .others k h e)) (b .these k h f)
-    treated k h false false e f t = absurd (false≢true t)
-
-    untreated : (k : ℕ) → k < 32 → (p q : Bool) → had k ≡ p → more k ≡ q → p || q ≡ false → Moves (taskAt s k) (taskAt s₂ k)
-    untreated k h true q e f t = absurd (true≢false t)
-    untreated k h false true e f t = absurd (true≢false t)
-    untreated k h false false e f t = moves-on (a .others k h e) (b .others k h f)
+    both : (k : ℕ) → k < 32 → (p q : Bool) → had k ≡ p → more k ≡ q
+        → SameButPosition (if p || q then taskAfterTick (taskAt s k) else taskAt s k) (taskAt s₂ k)
+    both k h true q e f = moves-on (taskAfterTick (taskAt s k)) _ _ (task-of a k h true e) (task-of b k h false (once k h e))
+    both k h false true e f = moves-on (taskAfterTick (taskAt s k)) _ _ (tick-moves (taskAt s k) _ (task-of a k h false e)) (task-of b k h true f)
+    both k h false false e f = moves-on (taskAt s k) _ _ (task-of a k h false e) (task-of b k h false f)
 
 -- ---- One task
 
@@ -119,55 +99,66 @@ module _ {s : State} (g : SoundFacts s) (t : ℕ) (t< : t < 32) where
   same-test b e k =
       ⊎-elim (λ z. ap (λ (c : Bool). eqb k t && c) (sym e ∙ ap (λ (n : ℕ). expires (taskAt s n)) (sym z))) (λ ne. rw (ne-eqb k t ne)) (same? k t)
 
-  had-tick : (s′ : State) (stays : ℕ → Bool) → ((k : ℕ) → stays k ≡ not (eqb k t && expires (taskAt s k)))
-      → ((i : ℕ) → i < 16 → contents s′ i ≡ record { messages = contents s i .messages; waiters = keep stays (contents s i .waiters) })
-      → taskAt s′ t ≡ afterTick (taskAt s t) → ((k : ℕ) → k < 32 → (k ≡ t → ⊥) → Moves (taskAt s k) (taskAt s′ k)) → Ticked s (λ k. eqb k t) s′
-  had-tick s′ stays e lists mine rest =
+  -- f is done to its record, and that is what a tick does
+  as-ticked : (f : Task → Task) → f (taskAt s t) ≡ taskAfterTick (taskAt s t) → (k : ℕ)
+      → atIndex t f k (taskAt s k) ≡ atIndex t taskAfterTick k (taskAt s k)
+  as-ticked f mine k =
+      at-both (λ k w. w ≡ atIndex t taskAfterTick k (taskAt s k)) t f k (taskAt s k)
+      (λ e. subst (λ (n : ℕ). f (taskAt s n) ≡ atIndex t taskAfterTick n (taskAt s n)) (sym e) (mine ∙ sym (at-here t taskAfterTick (taskAt s t))))
+      (λ ne. sym (at-other t taskAfterTick k (taskAt s k) ne))
+
+  had-tick : (s′ : State) (f : Task → Task) (b : Bool) → expires (taskAt s t) ≡ b → f (taskAt s t) ≡ taskAfterTick (taskAt s t)
+      → s′ .pool ≡ s .pool → ((i : ℕ) → i < 16 → queueAt s′ i ≡ withWaiters (queueAt s′ i .waiters) (queueAt s i))
+      → ((i : ℕ) → i < 16 → contents s′ i .waiters ≡ keep (λ k. not (eqb k t && b)) (contents s i .waiters))
+      → ((k : ℕ) → k < 32 → SameButPosition (atIndex t f k (taskAt s k)) (taskAt s′ k)) → Ticked s (λ k. eqb k t) s′
+  had-tick s′ f b e mine pool queues waiters tasks =
       record {
-        messages = λ i i<. ap (λ (q : Contents). q .messages) (lists i i<);
-        waiters = λ i i<. ap (λ (q : Contents). q .waiters) (lists i i<) ∙ keep-same g i i< _ _ (λ k h. e k);
-        these = λ k h z. subst (λ (n : ℕ). Moves (afterTick (taskAt s n)) (taskAt s′ n)) (sym (eqb-true k t z)) (stays-put mine);
-        others = λ k h z. rest k h (eqb-false k t z);
+        pool = pool;
+        queues = queues;
+        waiters = λ i i<. waiters i i< ∙ keep-same g i i< _ _ (λ k h. ap not (same-test b e k));
+        tasks = λ k h. subst (λ (w : Task). SameButPosition w (taskAt s′ k)) (as-ticked f mine k) (tasks k h);
       }
 
   tick-leaves : (slot : ℕ) → slot < 16 → taskAt s t .position .queue ≡ suc slot → expires (taskAt s t) ≡ true
       → Sized (leave s t slot (taskAt s t .position .rank) (readyWith TIMEOUT))
       → Ticked s (λ k. eqb k t) (leave s t slot (taskAt s t .position .rank) (readyWith TIMEOUT))
+  unfolding taskAfterTick
   tick-leaves slot slot< q e z′ =
       let l = leave-lists g t slot (taskAt s t .position .rank) (readyWith TIMEOUT) slot< (t<, q, refl) (λ w. refl) z′ in
-      had-tick _ (λ k. not (eqb k t)) (λ k. ap not (sym (and-true (eqb k t)) ∙ same-test true e k)) (λ i i<. both-lists (l .messages i i<) (l .waiters i i<))
-      (l .leaver ∙ rw e)
-      (λ k h ne. moves-to _ (out-moved t slot _ k (taskAt s k .position) ne) (l .stayers k h ne))
+      had-tick _ (readyWith TIMEOUT) true e (rw e) (l .pool) (l .queues)
+      (λ i i<. l .waiters i i< ∙ keep-same g i i< _ _ (λ k h. ap not (sym (and-true (eqb k t))))) (l .tasks)
 
-  tick-stays : (s′ : State) → expires (taskAt s t) ≡ false → ((i : ℕ) → i < 16 → contents s′ i ≡ contents s i)
-      → ((k : ℕ) → k < 32 → (k ≡ t → ⊥) → taskAt s′ k ≡ taskAt s k) → taskAt s′ t ≡ afterTick (taskAt s t) → Ticked s (λ k. eqb k t) s′
-  tick-stays s′ e same rest mine =
-      had-tick s′ (λ k. true) (λ k. ap not (sym (and-false (eqb k t)) ∙ same-test false e k))
-      (λ i i<. same i i< ∙ both-lists refl (sym (keep-all _ _ 0 (λ k h. refl)))) mine (λ k h ne. stays-put (rest k h ne))
+  -- no task leaves
+  tick-stays : (s′ : State) (f : Task → Task) → expires (taskAt s t) ≡ false → f (taskAt s t) ≡ taskAfterTick (taskAt s t)
+      → s′ .pool ≡ s .pool → ((i : ℕ) → i < 16 → queueAt s′ i ≡ queueAt s i) → ((i : ℕ) → i < 16 → contents s′ i .waiters ≡ contents s i .waiters)
+      → ((k : ℕ) → k < 32 → taskAt s′ k ≡ atIndex t f k (taskAt s k)) → Ticked s (λ k. eqb k t) s′
+  tick-stays s′ f e mine pool queues waiters tasks =
+      had-tick s′ f false e mine pool (λ i i<. rw (queues i i<) refl)
+      (λ i i<. waiters i i< ∙ sym (keep-all _ _ 0 (λ k h. ap not (and-false (eqb _ t))))) (λ k h. same-task _ _ (tasks k h))
 
   abbrev leaving : ℕ → State
   leaving queue = leave s t (pred queue) (taskAt s t .position .rank) (readyWith TIMEOUT)
 
+  abbrev fewer : Task → Task
+  fewer = withTicks (taskAt s t .ticksLeft - 1)
+
   abbrev waits-on : State
-  waits-on = record { queues = s .queues; pool = s .pool; tasks = mapWithIndex (atIndex t (withTicks (taskAt s t .ticksLeft - 1))) (s .tasks) }
+  waits-on = record { queues = s .queues; pool = s .pool; tasks = mapWithIndex (atIndex t fewer) (s .tasks) }
 
   tick-waits-on : expires (taskAt s t) ≡ false → isTimed (taskAt s t) ≡ true → Sized waits-on → Ticked s (λ k. eqb k t) waits-on
+  unfolding taskAfterTick
   tick-waits-on e f z′ =
-      tick-stays waits-on e
+      tick-stays waits-on fewer e (rw (e, f)) refl (λ i h. refl)
       (λ i i<.
-      both-lists (same-pool s waits-on i refl refl)
-      (same-waiters g i i< waits-on z′ refl
-      (λ j h. alike (ap (λ (w : Task). w .position) (after j h) ∙ at-both (λ _ w. w .position ≡ taskAt s j .position) t fewer j (taskAt s j) (λ _. refl) (λ _. refl)))))
-      (λ k h ne. after k h ∙ at-other t fewer k (taskAt s k) ne) (after t t< ∙ at-here t fewer (taskAt s t) ∙ rw (e, f))
+      same-waiters g i i< waits-on z′ refl
+      (λ j h. alike (ap (λ (w : Task). w .position) (after j h) ∙ at-both (λ _ w. w .position ≡ taskAt s j .position) t fewer j (taskAt s j) (λ _. refl) (λ _. refl))))
+      after
     where
-      fewer : Task → Task
-      fewer = withTicks (taskAt s t .ticksLeft - 1)
-
       after : (j : ℕ) → j < 32 → taskAt waits-on j ≡ atIndex t fewer j (taskAt s j)
       after j h = at-mapped (atIndex t fewer) (s .tasks) j (freshTask 1) (freshTask 1) (omega (arith, g .sized .tasks))
 
   tick-one : Sized (tickTask s t) → Ticked s (λ k. eqb k t) (tickTask s t)
-  unfolding tickTask
+  unfolding tickTask taskAfterTick
   tick-one = go (expires (taskAt s t)) (isTimed (taskAt s t)) refl refl
     where
       go : (b c : Bool) → expires (taskAt s t) ≡ b → isTimed (taskAt s t) ≡ c
@@ -177,7 +168,8 @@ module _ {s : State} (g : SoundFacts s) (t : ℕ) (t< : t < 32) where
           let w = expires-waits s g t t< e in
           subst (λ (q : ℕ). Sized (leaving q) → Ticked s (λ k. eqb k t) (leaving q)) (sym (w .queue)) (tick-leaves (w .slot) (w .within16) (w .queue) e) z′
       go false true e f z′ = tick-waits-on e f z′
-      go false false e f z′ = tick-stays s e (λ i h. refl) (λ k h ne. refl) (rw (e, f))
+      go false false e f z′ =
+          tick-stays s (λ w. w) e (rw (e, f)) refl (λ i h. refl) (λ i h. refl) (λ k h. at-both (λ k w. taskAt s k ≡ w) t (λ w. w) k _ (λ _. refl) (λ _. refl))
 
 -- ---- All tasks in turn
 
@@ -193,12 +185,7 @@ in-range k h = in-some (range 0 32) k 0 k (omega (arith, length-range 0 32)) (at
 tick-range : (s : State) → SoundFacts s → (i n : ℕ) → i + n ≤ 32 → Ticked s (λ k. isIn k (range i n)) (tickTasks s (range i n))
 unfolding tickTasks range isIn
 tick-range s g i zero h =
-    record {
-      messages = λ i i<. refl;
-      waiters = λ i i<. sym (keep-all _ _ 0 (λ k h. refl));
-      these = λ k h e. absurd (false≢true e);
-      others = λ k h e. stays-put refl;
-    }
+    record { pool = refl; queues = λ i i<. refl; waiters = λ i i<. sym (keep-all _ _ 0 (λ k h. refl)); tasks = λ k h. refl }
 tick-range s g i (suc n) h =
     let g′ : SoundFacts (tickTask s i) = tickTask-sound s g i (omega arith) in
     in-turn g (λ k lt e. subst (λ (j : ℕ). isIn j (range (suc i) n) ≡ false) (sym (eqb-true k i e)) (before-range i (suc i) n (omega arith)))
@@ -233,32 +220,22 @@ module _ (f : ℕ → Bool) where
 
 -- ---- The tick
 
-pub record TickFacts (s : State) : Type 0 where
-  pub queues : (i : ℕ) → i < 16
-      → contents (effect s .after) i
-      ≡ record { messages = contents s i .messages; waiters = keep (λ k. not (expires (taskAt s k))) (contents s i .waiters) }
-  pub value : effect s .answer .value ≡ length (expired s)
-  pub woken : effect s .answer .woken ≡ maskOf (expired s)
-  pub leaves : (k : ℕ) → k < 32 → expires (taskAt s k) ≡ true → taskAt (effect s .after) k ≡ readyWith TIMEOUT (taskAt s k)
-  pub stays : (k : ℕ) → k < 32 → expires (taskAt s k) ≡ false
-      → taskAt (effect s .after) k
-      ≡ moveTask (taskAt (effect s .after) k .position)
-      (withTicks (if isTimed (taskAt s k) then taskAt s k .ticksLeft - 1 else taskAt s k .ticksLeft) (taskAt s k))
-
-pub tick-facts : (s : State) → SoundFacts s → TickFacts s
+pub tick-lists : (s : State) → SoundFacts s → TickOnLists s (effect s)
 unfolding effect
-tick-facts s g =
+tick-lists s g =
     record {
-      queues = λ i i<. both-lists (all .messages i i<) (all .waiters i i< ∙ keep-same g i i< _ _ (λ k h. ap (λ (b : Bool). not (b && expires (taskAt s k))) (in-range k h)));
+      lists =
+          λ i i<.
+          both-lists (same-pool s _ i (all .pool) (ap (λ (q : Queue). q .pending) (all .queues i i<)))
+          (all .waiters i i< ∙ keep-same g i i< _ _ (λ k h. ap (λ (b : Bool). not (b && expires (taskAt s k))) (in-range k h)));
+      status = refl;
       value = ap count (by-number _ (λ k. expires (taskAt s k)) (s .tasks) (freshTask 1) false 32 (g .sized .tasks) (λ k h. refl)) ∙ count-keep _ (range 0 32);
       woken =
           mask-of _ (s .tasks) (freshTask 1) (expired s) (g .sized .tasks)
           (λ k h. sym (in-keep (λ k. expires (taskAt s k)) (range 0 32) k ∙ ap (λ (b : Bool). b && expires (taskAt s k)) (in-range k h)));
-      leaves =
-          λ k h e.
-          let m : Moves (readyWith TIMEOUT (taskAt s k)) (taskAt (tickTasks s (range 0 32)) k) = rw e at (all .these k h (in-range k h)) in
-          m .same ∙ ap (λ (p : Position). moveTask p (readyWith TIMEOUT (taskAt s k))) (m .place .1 refl);
-      stays = λ k h e. (rw e at (all .these k h (in-range k h))) .same;
+      tasks = λ k h. rw (in-range k h) at (all .tasks k h);
+      queues = all .queues;
+      pool = all .pool;
     }
   where
     all : Ticked s (λ k. isIn k (range 0 32)) (tickTasks s (range 0 32))

@@ -1,14 +1,21 @@
--- A queue as a list: what each directive and the tick do to the messages and the waiters of a queue, with no word of ranks.
-use Rattle.ranks.specs.Prelude.{ℕ, _-_, _<_, _≡_, Bool, true, false, not, _||_, List, [], _∷_, _++_, map, length, take, eqb, ltb}
+-- A queue as a list: what each directive and the tick do to the messages and the waiters of a queue, with no word of ranks, and what becomes of
+-- every queue's and every task's record.
+use mathlib.Core.Logic.{_↔_}
+use Rattle.ranks.specs.Prelude.{ℕ, suc, _-_, _<_, _≡_, Bool, true, false, not, _||_, List, [], _∷_, _++_, map, length, getD, take, eqb, ltb}
 use Rattle.ranks.specs.Lists.{if_then_else_, keep, mask, range}
+use Rattle.ranks.specs.Position.{positionAt}
 use Rattle.ranks.specs.Steps.{byRank}
-use Rattle.records.specs.Layout.{slotCount, taskCount, slotOf}
-use Rattle.records.specs.Records.{Buffer, Task, State, hasPriority, queueAt, bufferAt, taskAt}
-use Rattle.records.specs.Changes.{withMessage, readyWith, moveTask, withTicks}
+use Rattle.records.specs.Split.{shareOfTask}
+use Rattle.records.specs.Layout.{slotCount, taskCount, slotOf, idOf}
+use Rattle.records.specs.Records.{Queue, Buffer, Task, State, hasPriority, freeQueue, queueAt, bufferAt, taskAt}
+use Rattle.records.specs.Changes.{atIndex, withCounts, withWaiters, withMessage, readyWith, waitingAt, moveTask, withTicks}
 use Rattle.records.specs.Bytes.{Tables, decode}
-use Rattle.records.specs.Status.{OBJECT-WAS-DELETED, TIMEOUT}
-use Rattle.specification.specs.Answer.{Outcome}
-use Rattle.specification.specs.Call.{Operation, Directive, Call, delete, send, urgent, broadcast, receive, getNumberPending, flush, create, ident, onQueue, call, tick, argumentsInRange}
+use Rattle.records.specs.Status.{SUCCESSFUL, WAITING, OBJECT-WAS-DELETED, TIMEOUT}
+use Rattle.specification.specs.Answer.{Answer, Outcome}
+use Rattle.specification.specs.Call.{Operation, Call, delete, send, urgent, broadcast, receive, getNumberPending, flush, create, ident, onQueue, call, tick, argumentsInRange}
+use Rattle.specification.specs.Lookup.{hasWaiter, hasMessage}
+use Rattle.specification.specs.Create.{isFreeSlot, newQueue}
+use Rattle.specification.specs.Ident.{isNamed}
 use Rattle.specification.specs.Tick.{expires, isTimed}
 use Rattle.specification.specs.Step.{step}
 use Rattle.theorems.specs.SoundTables.{SoundTables, NotRefused}
@@ -30,20 +37,28 @@ contents s slot =
       waiters = byRank (λ w. w .position) slot (queueAt s slot .waiters) (s .tasks);
     }
 
+-- ---- What an operation does to a queue
+
+-- what the queue holds afterwards, the tasks that are woken, and the status and value answered
+pub record Effect : Type 0 where
+  pub queue : Contents
+  pub woken : List ℕ
+  pub status : ℕ
+  pub value : ℕ
+
+abbrev pub leaves : (messages : List (List ℕ)) (waiters woken : List ℕ) (value : ℕ) → Effect
+leaves messages waiters woken value =
+    record { queue = record { messages = messages; waiters = waiters }; woken = woken; status = SUCCESSFUL; value = value }
+
+-- "Else the caller waits, status 14": there is no message
+abbrev pub waits : (waiters : List ℕ) → Effect
+waits waiters = record { queue = record { messages = []; waiters = waiters }; woken = []; status = WAITING; value = 0 }
+
 -- "behind all of equal or smaller number"
 unfoldable pub insertByPriority : (priority : ℕ → ℕ) (newcomer : ℕ) → List ℕ → List ℕ
 insertByPriority priority newcomer [] = newcomer ∷ []
 insertByPriority priority newcomer (w ∷ ws) =
     if ltb (priority newcomer) (priority w) then newcomer ∷ w ∷ ws else w ∷ insertByPriority priority newcomer ws
-
--- what an operation does to a queue: what it holds afterwards, the tasks that are woken, and the value answered
-pub record Effect : Type 0 where
-  pub queue : Contents
-  pub woken : List ℕ
-  pub value : ℕ
-
-abbrev pub leaves : (messages : List (List ℕ)) (waiters woken : List ℕ) (value : ℕ) → Effect
-leaves messages waiters woken value = record { queue = record { messages = messages; waiters = waiters }; woken = woken; value = value }
 
 -- the waiter in front takes the message; if none waits, it is queued as `enqueue` says
 unfoldable pub submit : (enqueue : List (List ℕ) → List (List ℕ)) → Contents → Effect
@@ -52,7 +67,7 @@ submit enqueue q =
 
 -- the message in front is taken; if there is none, the caller waits as `wait` says
 unfoldable pub takeMessage : (wait : List ℕ → List ℕ) → Contents → Effect
-takeMessage wait q = elim (q .messages) [ [] ↦ leaves [] (wait (q .waiters)) [] 0 | m ∷ ms ↦ leaves ms (q .waiters) [] (length m) ]
+takeMessage wait q = elim (q .messages) [ [] ↦ waits (wait (q .waiters)) | m ∷ ms ↦ leaves ms (q .waiters) [] (length m) ]
 
 -- an operation that is not refused, on the queue in the slot
 unfoldable pub onList : State → (caller slot : ℕ) → Operation → Contents → Effect
@@ -65,77 +80,129 @@ onList s caller slot (receive option ticks) q =
 onList s caller slot getNumberPending q = leaves (q .messages) (q .waiters) [] (length (q .messages))
 onList s caller slot flush q = leaves [] (q .waiters) [] (length (q .messages))
 
--- what becomes of the record of a task that an operation wakes
-unfoldable pub wokenTask : Operation → Task → Task
-wokenTask delete w = readyWith OBJECT-WAS-DELETED w
-wokenTask (send message) w = withMessage message w
-wokenTask (urgent message) w = withMessage message w
-wokenTask (broadcast message) w = withMessage message w
-wokenTask (receive option ticks) w = w
-wokenTask getNumberPending w = w
-wokenTask flush w = w
+-- ---- What becomes of the records
 
--- the mask with the bits of the tasks in a list
 unfoldable pub isIn : ℕ → List ℕ → Bool
 isIn t [] = false
 isIn t (u ∷ us) = eqb t u || isIn t us
 
+-- the record of task `k`, but for its position
+unfoldable pub taskAfter : (caller : ℕ) → Operation → Contents → (k : ℕ) → Task → Task
+taskAfter caller delete q k w = if isIn k (q .waiters) then readyWith OBJECT-WAS-DELETED w else w
+taskAfter caller (send message) q k w = if isIn k (take 1 (q .waiters)) then withMessage message w else w
+taskAfter caller (urgent message) q k w = if isIn k (take 1 (q .waiters)) then withMessage message w else w
+taskAfter caller (broadcast message) q k w = if isIn k (q .waiters) then withMessage message w else w
+taskAfter caller (receive option ticks) q k w =
+    if eqb k caller then elim (q .messages) [ [] ↦ waitingAt (w .position) ticks w | m ∷ ms ↦ withMessage m w ] else w
+taskAfter caller getNumberPending q k w = w
+taskAfter caller flush q k w = w
+
+-- the record of the queue, but for its counts; "the record is zeroed but for its generation"
+unfoldable pub queueAfter : Operation → Queue → Queue
+queueAfter delete q = freeQueue (q .generation)
+queueAfter (send message) q = q
+queueAfter (urgent message) q = q
+queueAfter (broadcast message) q = q
+queueAfter (receive option ticks) q = q
+queueAfter getNumberPending q = q
+queueAfter flush q = q
+
+-- "every waiting task with ticks above 0 loses one; all that reach 0 become ready together with status 7"
+unfoldable pub taskAfterTick : Task → Task
+taskAfterTick w = if expires w then readyWith TIMEOUT w else if isTimed w then withTicks (w .ticksLeft - 1) w else w
+
+-- the same but for the position, which is what the lists say (`TestsOnLists.position`; a ready task has none)
+abbrev pub SameButPosition : (w w′ : Task) → Type 0
+SameButPosition w w′ = w′ ≡ moveTask (w′ .position) w
+
+-- the same but for the counts, which are the lengths of the lists (`TestsOnLists.pending`, `TestsOnLists.waiters`)
+abbrev pub SameButCounts : (q q′ : Queue) → Type 0
+SameButCounts q q′ = q′ ≡ withCounts (q′ .pending) (q′ .waiters) q
+
+-- ---- The statements
+
+-- the mask with the bits of the tasks in a list
 abbrev pub maskOf : (tasks : List ℕ) → ℕ
 maskOf tasks = mask (map (λ t. isIn t tasks) (range 0 taskCount))
 
--- ---- The statements, on any sound tables `t`
+-- The tests and the counts of the queue in the slot, and its waiters' ranks, are about its lists.
+pub record TestsOnLists (s : State) (slot : ℕ) : Type 0 where
+  pub no-waiter : (hasWaiter s slot ≡ false) ↔ (contents s slot .waiters ≡ [])
+  pub no-message : (hasMessage s slot ≡ false) ↔ (contents s slot .messages ≡ [])
+  pub pending : queueAt s slot .pending ≡ length (contents s slot .messages)
+  pub waiters : queueAt s slot .waiters ≡ length (contents s slot .waiters)
+  -- task `k` stands at a rank of the queue exactly if it has that place in the list
+  pub position : (k rank : ℕ) → k < taskCount → (taskAt s k .position ≡ positionAt slot rank) ↔ (getD (contents s slot .waiters) rank taskCount ≡ k)
 
-abbrev pub operate : Tables → (caller id : ℕ) → Operation → Outcome Tables
-operate t caller id operation = step t (call caller (onQueue id operation))
+-- An operation on the queue in the slot, with the outcome `r`: it does `e` to the queue, `task k` to the record of task `k`, and `own` to the
+-- queue's own record.
+pub record OperationOnLists (s : State) (slot : ℕ) (r : Outcome State) (e : Effect) (task : ℕ → Task → Task) (own : Queue → Queue) : Type 0 where
+  pub queue : contents (r .after) slot ≡ e .queue
+  pub others : (i : ℕ) → i < slotCount → (i ≡ slot → ⊥) → contents (r .after) i ≡ contents s i
+  pub status : r .answer .status ≡ e .status
+  pub value : r .answer .value ≡ e .value
+  pub woken : r .answer .woken ≡ maskOf (e .woken)
+  pub tasks : (k : ℕ) → k < taskCount → SameButPosition (task k (taskAt s k)) (taskAt (r .after) k)
+  pub queues : (i : ℕ) → i < slotCount → SameButCounts (atIndex slot own i (queueAt s i)) (queueAt (r .after) i)
 
--- its effect on the queue as a list
-abbrev pub listEffect : Tables → (caller id : ℕ) → Operation → Effect
-listEffect t caller id operation = onList (decode t) caller (slotOf id) operation (contents (decode t) (slotOf id))
+-- the lowest number that passes a test
+pub record Lowest (test : ℕ → Bool) (n : ℕ) : Type 0 where
+  pub passes : test n ≡ true
+  pub least : (i : ℕ) → i < n → test i ≡ false
 
--- an operation on a queue that is not refused
-pub record OperationOnLists (t : Tables) (caller id : ℕ) (operation : Operation) : Type 0 where
-  pub queue : contents (decode (operate t caller id operation .after)) (slotOf id) ≡ listEffect t caller id operation .queue
-  pub others : (i : ℕ) → i < slotCount → (i ≡ slotOf id → ⊥) → contents (decode (operate t caller id operation .after)) i ≡ contents (decode t) i
-  pub value : operate t caller id operation .answer .value ≡ listEffect t caller id operation .value
-  pub woken : operate t caller id operation .answer .woken ≡ maskOf (listEffect t caller id operation .woken)
-  pub tasks : (k : ℕ) → k < taskCount → isIn k (listEffect t caller id operation .woken) ≡ true
-      → taskAt (decode (operate t caller id operation .after)) k ≡ wokenTask operation (taskAt (decode t) k)
+-- A create by a task of the share, with the outcome `r`: "Takes the lowest free slot of the caller's share with generation below 65,535 and
+-- raises its generation by one. [...] Value: the id."
+pub record CreateOnLists (s : State) (share name limit maxSize attributes : ℕ) (r : Outcome State) : Type 0 where
+  pub slot : ℕ
+  pub lowest : Lowest (λ i. isFreeSlot share i (queueAt s i)) slot
+  pub answer : r .answer ≡ record { status = SUCCESSFUL; value = idOf (suc (queueAt s slot .generation)) slot; woken = 0 }
+  pub queues : (i : ℕ) → i < slotCount
+      → queueAt (r .after) i ≡ atIndex slot (λ q. newQueue (suc (q .generation)) name limit maxSize attributes) i (queueAt s i)
+  pub pool : r .after .pool ≡ s .pool
+  pub tasks : r .after .tasks ≡ s .tasks
+  pub lists : (i : ℕ) → i < slotCount → contents (r .after) i ≡ contents s i
 
--- a receive that finds a message: the caller has it
-abbrev pub ReceiverHasMessage : (t : Tables) (caller id option ticks : ℕ) → Type 0
-ReceiverHasMessage t caller id option ticks =
-    (message : List ℕ) (rest : List (List ℕ)) → contents (decode t) (slotOf id) .messages ≡ message ∷ rest
-    → taskAt (decode (operate t caller id (receive option ticks) .after)) caller ≡ withMessage message (taskAt (decode t) caller)
+-- An ident, with the answer `a`: "Lowest live slot of that share with the name; in a foreign share only OPEN ones. Value: the id."
+pub record IdentOnLists (s : State) (caller name share : ℕ) (a : Answer) : Type 0 where
+  pub slot : ℕ
+  pub lowest : Lowest (λ i. isNamed caller name share i (queueAt s i)) slot
+  pub answer : a ≡ record { status = SUCCESSFUL; value = idOf (queueAt s slot .generation) slot; woken = 0 }
 
 -- the tasks whose last tick has come
 abbrev pub expired : State → List ℕ
 expired s = keep (λ k. expires (taskAt s k)) (range 0 taskCount)
 
--- "all that reach 0 become ready together"
-pub record TickOnLists (t : Tables) : Type 0 where
-  pub queues : (i : ℕ) → i < slotCount
-      → contents (decode (step t tick .after)) i
-      ≡ record {
-        messages = contents (decode t) i .messages;
-        waiters = keep (λ k. not (expires (taskAt (decode t) k))) (contents (decode t) i .waiters);
-      }
-  pub value : step t tick .answer .value ≡ length (expired (decode t))
-  pub woken : step t tick .answer .woken ≡ maskOf (expired (decode t))
-  pub leaves : (k : ℕ) → k < taskCount → expires (taskAt (decode t) k) ≡ true
-      → taskAt (decode (step t tick .after)) k ≡ readyWith TIMEOUT (taskAt (decode t) k)
-  pub stays : (k : ℕ) → k < taskCount → expires (taskAt (decode t) k) ≡ false
-      → taskAt (decode (step t tick .after)) k
-      ≡ moveTask (taskAt (decode (step t tick .after)) k .position)
-      (withTicks (if isTimed (taskAt (decode t) k) then taskAt (decode t) k .ticksLeft - 1 else taskAt (decode t) k .ticksLeft) (taskAt (decode t) k))
+-- A tick, with the outcome `r`: "all that reach 0 become ready together [...]. Value: how many; mask set."
+pub record TickOnLists (s : State) (r : Outcome State) : Type 0 where
+  pub lists : (i : ℕ) → i < slotCount
+      → contents (r .after) i
+      ≡ record { messages = contents s i .messages; waiters = keep (λ k. not (expires (taskAt s k))) (contents s i .waiters) }
+  pub status : r .answer .status ≡ SUCCESSFUL
+  pub value : r .answer .value ≡ length (expired s)
+  pub woken : r .answer .woken ≡ maskOf (expired s)
+  pub tasks : (k : ℕ) → k < taskCount → SameButPosition (taskAfterTick (taskAt s k)) (taskAt (r .after) k)
+  pub queues : (i : ℕ) → i < slotCount → queueAt (r .after) i ≡ withWaiters (queueAt (r .after) i .waiters) (queueAt s i)
+  pub pool : r .after .pool ≡ s .pool
+
+-- ---- On any sound tables `t`
+
+-- the outcome of a call, with the tables as records
+abbrev pub outcomeOf : Tables → Call → Outcome State
+outcomeOf t c = record { answer = step t c .answer; after = decode (step t c .after) }
 
 pub record QueuesAsLists : Type 0 where
+  pub tests : (t : Tables) → SoundTables t → (slot : ℕ) → slot < slotCount → TestsOnLists (decode t) slot
+  -- calls that are not refused
   pub operation : (t : Tables) (caller id : ℕ) (o : Operation) → SoundTables t → argumentsInRange (call caller (onQueue id o)) ≡ true
-      → NotRefused (operate t caller id o .answer) → OperationOnLists t caller id o
-  pub receiver : (t : Tables) (caller id option ticks : ℕ) → SoundTables t → argumentsInRange (call caller (onQueue id (receive option ticks))) ≡ true
-      → NotRefused (operate t caller id (receive option ticks) .answer) → ReceiverHasMessage t caller id option ticks
-  -- create and ident leave every queue's messages and waiters as they were
+      → NotRefused (step t (call caller (onQueue id o)) .answer)
+      → OperationOnLists (decode t) (slotOf id) (outcomeOf t (call caller (onQueue id o)))
+      (onList (decode t) caller (slotOf id) o (contents (decode t) (slotOf id)))
+      (taskAfter caller o (contents (decode t) (slotOf id))) (queueAfter o)
   pub create : (t : Tables) (caller name limit maxSize attributes : ℕ) → SoundTables t
       → argumentsInRange (call caller (create name limit maxSize attributes)) ≡ true
-      → (i : ℕ) → i < slotCount → contents (decode (step t (call caller (create name limit maxSize attributes)) .after)) i ≡ contents (decode t) i
-  pub ident : (t : Tables) (caller name share : ℕ) → SoundTables t → step t (call caller (ident name share)) .after ≡ t
-  pub tick : (t : Tables) → SoundTables t → TickOnLists t
+      → NotRefused (step t (call caller (create name limit maxSize attributes)) .answer)
+      → CreateOnLists (decode t) (shareOfTask caller) name limit maxSize attributes (outcomeOf t (call caller (create name limit maxSize attributes)))
+  pub ident-changes-nothing : (t : Tables) (caller name share : ℕ) → SoundTables t → step t (call caller (ident name share)) .after ≡ t
+  pub ident : (t : Tables) (caller name share : ℕ) → SoundTables t → NotRefused (step t (call caller (ident name share)) .answer)
+      → IdentOnLists (decode t) caller name share (step t (call caller (ident name share)) .answer)
+  pub tick : (t : Tables) → SoundTables t → TickOnLists (decode t) (outcomeOf t tick)

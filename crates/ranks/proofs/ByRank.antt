@@ -10,7 +10,7 @@ use lib.Dec.{eqb}
 use lib.ListN.{length, getD, set, take, drop, length-map, length-set, drop-of-length-le, List·getD-eq-default}
 use lib.Seq.{ext-getD, getD-at, getD-set-same, getD-set-other, length-take-le, take-all}
 use borrow.Author.Tests.{eqb-true, eq-eqb, ne-eqb}
-use Rattle.ranks.specs.Lists.{mapWithIndex, count, first, range, keep}
+use Rattle.ranks.specs.Lists.{mapWithIndex, count, first, range, filter}
 use Rattle.ranks.specs.Position.{Position, inQueue, standsAt}
 use Rattle.ranks.specs.Steps.{inserted, takenOut, recordAt, byRank}
 use Rattle.ranks.proofs.Tests.{both, and, same?, lt-or-ge}
@@ -43,38 +43,38 @@ module _ {A : Type 0} where
   length-put [] (suc k) t = refl
   length-put (x ∷ l) (suc k) t = ap suc (length-put l k t)
 
-  -- ---- keep
+  -- ---- filter
 
   -- an entry that fails is not kept, wherever it stands
-  keep-put : (f : A → Bool) (l : List A) (k : ℕ) (t : A) → f t ≡ false → keep f (take k l ++ t ∷ drop k l) ≡ keep f l
-  unfolding keep
-  keep-put f l zero t e = rw (e, keep)
-  keep-put f [] (suc k) t e = rw (e, keep)
-  keep-put f (x ∷ l) (suc k) t e = ap (λ (r : List A). elim (f x) [ true ↦ x ∷ r | false ↦ r ]) (keep-put f l k t e)
+  filter-put : (f : A → Bool) (l : List A) (k : ℕ) (t : A) → f t ≡ false → filter f (take k l ++ t ∷ drop k l) ≡ filter f l
+  unfolding filter
+  filter-put f l zero t e = rw (e, filter)
+  filter-put f [] (suc k) t e = rw (e, filter)
+  filter-put f (x ∷ l) (suc k) t e = ap (λ (r : List A). elim (f x) [ true ↦ x ∷ r | false ↦ r ]) (filter-put f l k t e)
 
   -- two tests that say the same of every entry keep the same
-  pub keep-cong : (f g : A → Bool) (l : List A) (d : A) → ((k : ℕ) → k < length l → f (getD l k d) ≡ g (getD l k d)) → keep f l ≡ keep g l
-  unfolding keep
-  keep-cong f g [] d h = refl
-  keep-cong f g (x ∷ l) d h =
-      let rest : keep f l ≡ keep g l = keep-cong f g l d (λ k lt. h (suc k) (omega arith)) in
+  pub filter-cong : (f g : A → Bool) (l : List A) (d : A) → ((k : ℕ) → k < length l → f (getD l k d) ≡ g (getD l k d)) → filter f l ≡ filter g l
+  unfolding filter
+  filter-cong f g [] d h = refl
+  filter-cong f g (x ∷ l) d h =
+      let rest : filter f l ≡ filter g l = filter-cong f g l d (λ k lt. h (suc k) (omega arith)) in
       λ i. elim (h 0 (omega arith) i) [ true ↦ x ∷ rest i | false ↦ rest i ]
 
   -- where every entry passes, all are kept
-  pub keep-all : (f : A → Bool) (l : List A) (d : A) → ((k : ℕ) → k < length l → f (getD l k d) ≡ true) → keep f l ≡ l
-  unfolding keep
-  keep-all f [] d h = refl
-  keep-all f (x ∷ l) d h = rw (h 0 (omega arith), keep) (ap (λ (r : List A). x ∷ r) (keep-all f l d (λ k lt. h (suc k) (omega arith))))
+  pub filter-all : (f : A → Bool) (l : List A) (d : A) → ((k : ℕ) → k < length l → f (getD l k d) ≡ true) → filter f l ≡ l
+  unfolding filter
+  filter-all f [] d h = refl
+  filter-all f (x ∷ l) d h = rw (h 0 (omega arith), filter) (ap (λ (r : List A). x ∷ r) (filter-all f l d (λ k lt. h (suc k) (omega arith))))
 
   -- what two tests in turn keep
-  pub keep-keep : (f g : A → Bool) (l : List A) → keep f (keep g l) ≡ keep (λ x. g x && f x) l
-  unfolding keep
-  keep-keep f g [] = refl
-  keep-keep f g (x ∷ l) = go (g x) (keep-keep f g l)
+  pub filter-filter : (f g : A → Bool) (l : List A) → filter f (filter g l) ≡ filter (λ x. g x && f x) l
+  unfolding filter
+  filter-filter f g [] = refl
+  filter-filter f g (x ∷ l) = go (g x) (filter-filter f g l)
     where
-      go : (b : Bool) → keep f (keep g l) ≡ keep (λ x. g x && f x) l
-          → keep f (elim b [ true ↦ x ∷ keep g l | false ↦ keep g l ])
-          ≡ (elim (b && f x) [ true ↦ x ∷ keep (λ x. g x && f x) l | false ↦ keep (λ x. g x && f x) l ])
+      go : (b : Bool) → filter f (filter g l) ≡ filter (λ x. g x && f x) l
+          → filter f (elim b [ true ↦ x ∷ filter g l | false ↦ filter g l ])
+          ≡ (elim (b && f x) [ true ↦ x ∷ filter (λ x. g x && f x) l | false ↦ filter (λ x. g x && f x) l ])
       go true ih = ap (λ (r : List A). elim (f x) [ true ↦ x ∷ r | false ↦ r ]) ih
       go false ih = ih
 
@@ -324,13 +324,13 @@ module _ {A : Type 0} {position : A → Position} {a : A} {N slot n : ℕ} {xs :
         let z : position (getD xs′ t a) .queue ≡ 0 = ap (λ (p : Position). p .queue) (to t (s .0) ∙ out-itself t slot k (position (getD xs t a))) in
         omega arith
 
-    pub taken-out-list : byRank position slot (n - 1) xs′ ≡ keep (λ j. not (eqb j t)) (byRank position slot n xs)
+    pub taken-out-list : byRank position slot (n - 1) xs′ ≡ filter (λ j. not (eqb j t)) (byRank position slot n xs)
     taken-out-list =
         let l : List ℕ = byRank position slot (n - 1) xs′ in
         let f : ℕ → Bool = λ j. not (eqb j t) in
         sym
-        (ap (keep f) taken-from ∙ keep-put f l k t (ap not (eq-eqb t t refl))
-        ∙ keep-all f l 0 (λ i h. ap not (ne-eqb (getD l i 0) t (taken-gone i (omega (arith, length-by-rank taken-table))))))
+        (ap (filter f) taken-from ∙ filter-put f l k t (ap not (eq-eqb t t refl))
+        ∙ filter-all f l 0 (λ i h. ap not (ne-eqb (getD l i 0) t (taken-gone i (omega (arith, length-by-rank taken-table))))))
 
   pub taken-first : (t : ℕ) → Stands N (positions position a xs) slot 0 t → Changed position a N xs xs′ (takenOut t slot 0)
       → byRank position slot n xs ≡ t ∷ byRank position slot (n - 1) xs′

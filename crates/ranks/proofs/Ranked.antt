@@ -1,4 +1,4 @@
--- The test `ranked` of `specs/Sound.antt` says what `Ranked` says. Assumes nothing.
+-- The test `ranked` of `specs/Steps.antt` says what `Ranked` says. Assumes nothing.
 use Prim.Native.Nat.{ℕ, zero, suc, _+_, _≤_, _<_}
 use native.Mathlib.Nat.{zero-add, le-of-suc-le-suc, not-suc-le-zero}
 use native.Mathlib.Omega.{arith}

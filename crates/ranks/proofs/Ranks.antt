@@ -10,7 +10,7 @@ use Rattle.ranks.specs.Position.{Position, noQueue, positionAt, inQueue}
 use Rattle.ranks.specs.Steps.{inserted, takenOut}
 use Rattle.ranks.proofs.Tests.{both, not-and, either}
 
--- Of N places those in the queue of the slot have the ranks 0 to n-1, each exactly once.
+-- Of N positions those in the queue of the slot have the ranks 0 to n-1, each exactly once.
 pub record Ranked (N : ℕ) (P : ℕ → Position) (slot n : ℕ) : Type 0 where
   pub below : (j : ℕ) → j < N → P j .queue ≡ suc slot → P j .rank < n
   pub some : (r : ℕ) → r < n → (j : ℕ) × (j < N) × (P j .queue ≡ suc slot) × (P j .rank ≡ r)
@@ -25,9 +25,9 @@ nobody N P slot gone =
       one = λ j k hj hk qj qk e. absurd (gone j hj qj);
     }
 
--- ---- What a step makes of one place
+-- ---- What a step makes of one position
 
--- The place p of another record becomes p′ when the one at the rank is taken out.
+-- The position p of another record becomes p′ when the one at the rank is taken out.
 pub data Out (slot rank : ℕ) (p p′ : Position) : Type 0 where
   ahead : p .queue ≡ suc slot → p .rank ≤ rank → p′ .queue ≡ suc slot → p′ .rank ≡ p .rank → Out slot rank p p′
   behind : p .queue ≡ suc slot → rank < p .rank → p′ .queue ≡ suc slot → suc (p′ .rank) ≡ p .rank → Out slot rank p p′
@@ -46,7 +46,7 @@ out t slot rank j p ne = go (inQueue slot p) (ltb rank (p .rank)) refl refl
     go true false e f = rw (takenOut, ne-eqb j t ne, e, f) (ahead (eqb-true _ _ e) (ltb-false _ _ f) (eqb-true _ _ e) refl)
     go false b e f = rw (takenOut, ne-eqb j t ne, e) (elsewhere (eqb-false _ _ e) refl)
 
--- The place p of another record becomes p′ when one is put in at the rank.
+-- The position p of another record becomes p′ when one is put in at the rank.
 pub data In (slot rank : ℕ) (p p′ : Position) : Type 0 where
   ahead : p .queue ≡ suc slot → p .rank < rank → p′ .queue ≡ suc slot → p′ .rank ≡ p .rank → In slot rank p p′
   behind : p .queue ≡ suc slot → rank ≤ p .rank → p′ .queue ≡ suc slot → p′ .rank ≡ suc (p .rank) → In slot rank p p′
@@ -66,9 +66,9 @@ into t slot rank j p ne = rw (ne-eqb j t ne) (go (inQueue slot p) (leb rank (p .
     go true false e f = In.ahead (eqb-true _ _ e) (leb-false _ _ f) (eqb-true _ _ e) refl
     go false b e f = In.elsewhere (eqb-false _ _ e) refl
 
--- ---- Another queue's places
+-- ---- Another queue's positions
 
--- a step on one queue leaves the ranks of another, if it moves no place into or out of that other
+-- a step on one queue leaves the ranks of another, if it moves no position into or out of that other
 pub frame : (N : ℕ) (P P′ : ℕ → Position) (slot n : ℕ)
     → ((j : ℕ) → j < N → P j .queue ≡ suc slot → P′ j ≡ P j)
     → ((j : ℕ) → j < N → P′ j .queue ≡ suc slot → P j .queue ≡ suc slot)
@@ -110,7 +110,7 @@ left-below : {rank a a′ n : ℕ} → Left rank a a′ → a < n → rank < n �
 left-below (before h e) l k = omega arith
 left-below (after h e) l k = omega arith
 
--- Take record t, which stands in the queue, out of N places.
+-- Take record t, which stands in the queue, out of N positions.
 module _ (N : ℕ) (P : ℕ → Position) (slot n t : ℕ) (here : t < N) (q : P t .queue ≡ suc slot) (r : Ranked N P slot n) where
   taken : ℕ → Position
   taken j = takenOut t slot (P t .rank) j (P j)
@@ -299,7 +299,7 @@ module _ (N : ℕ) (P : ℕ → Position) (slot n t rank : ℕ) (here : t < N) (
 
 -- ---- Other queues
 
--- Two places agree for the queue of slot i: one is in it exactly where the other is, and then they are the same.
+-- Two positions agree for the queue of slot i: one is in it exactly where the other is, and then they are the same.
 abbrev pub Agree : ℕ → Position → Position → Type 0
 Agree i p p′ = (p .queue ≡ suc i → p′ ≡ p) × (p′ .queue ≡ suc i → p .queue ≡ suc i)
 
@@ -404,7 +404,7 @@ module _ (N K : ℕ) (P P′ : ℕ → Position) (n n′ : ℕ → ℕ) (slot : 
           subst (λ (k : ℕ). Ranked N P′ k (n′ k)) (sym (eqb-true _ _ z)) (subst (λ (k : ℕ). Ranked N P′ slot k) (sym c) none)
       go false z = let ne = eqb-false _ _ z in rest i h ne (λ j hj. ag i j ne hj)
 
--- ---- Which queue a place is in
+-- ---- Which queue a position is in
 
 pub out-queue : (t slot rank j : ℕ) (p : Position) (k : ℕ) → takenOut t slot rank j p .queue ≡ suc k → p .queue ≡ suc k
 out-queue t slot rank j p k e = go (eqb j t) refl
@@ -429,9 +429,9 @@ in-queue t slot rank j p k ne e = by (into t slot rank j p ne)
     by (In.behind a b c d) = a ∙ sym c ∙ e
     by (In.elsewhere a b) = sym (ap (λ (x : Position). x .queue) b) ∙ e
 
--- ---- What a step leaves of another record's place
+-- ---- What a step leaves of another record's position
 
--- the queue stays, and a place in no queue stays as it is
+-- the queue stays, and a position in no queue stays as it is
 abbrev pub Moved : Position → Position → Type 0
 Moved p p′ = (p′ .queue ≡ p .queue) × (p .queue ≡ 0 → p′ ≡ p)
 
@@ -451,7 +451,7 @@ in-moved t slot rank j p ne = by (into t slot rank j p ne)
     by (In.behind a b c d) = (c ∙ sym a, λ z. absurd (omega arith))
     by (In.elsewhere a b) = (ap (λ (x : Position). x .queue) b, λ z. b)
 
--- a place that is not in the queue stays
+-- a position that is not in the queue stays
 pub out-stays : (t slot rank j : ℕ) (p : Position) → (j ≡ t → ⊥) → (p .queue ≡ suc slot → ⊥) → takenOut t slot rank j p ≡ p
 out-stays t slot rank j p ne n = by (out t slot rank j p ne)
   where

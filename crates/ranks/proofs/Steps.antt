@@ -1,4 +1,4 @@
--- The rank steps of one place, as the code goes by its tests. Assumes nothing.
+-- The rank steps of one position, as the code goes by its tests. Assumes nothing.
 use Prim.Native.Nat.{ℕ, suc, _+_, _-_, _≤_, _<_}
 use native.Mathlib.Omega.{arith}
 use native.Mathlib.Numerals.{add-one}

@@ -43,8 +43,8 @@ abbrev pub every : {A : Type 0} → (ℕ → A → Bool) → List A → Bool
 every test xs = all (mapWithIndex test xs)
 
 -- the number of the first record that passes, or how many records there are
-abbrev pub firstThat : {A : Type 0} → (ℕ → A → Bool) → List A → ℕ
-firstThat test xs = first (mapWithIndex test xs)
+abbrev pub findIndex : {A : Type 0} → (ℕ → A → Bool) → List A → ℕ
+findIndex test xs = first (mapWithIndex test xs)
 
 -- the number whose bit t is set where test t is passed
 unfoldable pub mask : List Bool → ℕ
@@ -57,9 +57,9 @@ bit zero m = m % 2
 bit (suc t) m = bit t (m / 2)
 
 -- the entries that pass a test, in order
-unfoldable pub keep : {A : Type 0} → (A → Bool) → List A → List A
-keep test [] = []
-keep test (x ∷ xs) = elim (test x) [ true ↦ x ∷ keep test xs | false ↦ keep test xs ]
+unfoldable pub filter : {A : Type 0} → (A → Bool) → List A → List A
+filter test [] = []
+filter test (x ∷ xs) = elim (test x) [ true ↦ x ∷ filter test xs | false ↦ filter test xs ]
 
 unfoldable pub sum : List ℕ → ℕ
 sum [] = 0

@@ -1,6 +1,6 @@
 -- The rank steps: insert, take out, first. Messages and waiters share them. Insert and take out say what becomes of the position of record `j`.
 use Rattle.ranks.specs.Prelude.{ℕ, suc, _-_, _<_, _≡_, Bool, true, false, _&&_, List, [], map, getD, eqb, leb, ltb}
-use Rattle.ranks.specs.Lists.{if_then_else_, _implies_, mapWithIndex, count, every, firstThat, range}
+use Rattle.ranks.specs.Lists.{if_then_else_, _implies_, mapWithIndex, count, every, findIndex, range}
 use Rattle.ranks.specs.Position.{Position, noQueue, positionAt, inQueue, standsAt}
 use Rattle.ranks.specs.Table.{positionIn}
 
@@ -16,7 +16,7 @@ takenOut i slot rank j p =
 
 -- The record that stands at a rank of the queue, or how many records there are. The first stands at rank 0.
 abbrev pub recordAt : {A : Type 0} → (A → Position) → (slot rank : ℕ) → List A → ℕ
-recordAt position slot rank xs = firstThat (λ j x. standsAt slot rank (position x)) xs
+recordAt position slot rank xs = findIndex (λ j x. standsAt slot rank (position x)) xs
 
 -- The records of the queue by rank: those at the ranks 0 to n-1, in order.
 unfoldable pub byRank : {A : Type 0} → (A → Position) → (slot n : ℕ) → List A → List ℕ

@@ -2,7 +2,7 @@
 ghost use mathlib.Core.Path.{_≡_};
 ghost use mathlib.Core.Bool.{true};
 ghost use Prim.Native.Nat.{_+_, _*_, _≤_, _<_};
-ghost use lib.ListN.{length, getD};
+ghost use lib.ListN.{length};
 ghost use Rattle.ranks.specs.Lists.{mapWithIndex};
 ghost use Rattle.ranks.specs.Position.{inQueue, standsAt};
 ghost use Rattle.ranks.specs.Table.{records, positionIn, putPosition, moved, Shape};

@@ -97,16 +97,16 @@ module _ (s : State) (r : FieldsInRange s) where
   unfolding encode
   bytes-queues =
       bytes-records encodeQueue QueueInRange bytes-queue (s .queues)
-      (each-of QueueInRange (s .queues) (freeQueue 0) (λ i h. r .queues i (omega (arith, r .slotCount))))
+      (each-of QueueInRange (s .queues) (freeQueue 0) (λ i h. r .queues i (omega (arith, r .queuesLength))))
 
   pub bytes-pool : AllBytes (encode s .pool)
   unfolding encode
   bytes-pool =
       bytes-records encodeBuffer BufferInRange bytes-buffer (s .pool)
-      (each-of BufferInRange (s .pool) freeBuffer (λ i h. r .pool i (omega (arith, r .bufferCount))))
+      (each-of BufferInRange (s .pool) freeBuffer (λ i h. r .pool i (omega (arith, r .poolLength))))
 
   pub bytes-tasks : AllBytes (encode s .tasks)
   unfolding encode
   bytes-tasks =
       bytes-records encodeTask TaskInRange bytes-task (s .tasks)
-      (each-of TaskInRange (s .tasks) (freshTask 1) (λ i h. r .tasks i (omega (arith, r .taskCount))))
+      (each-of TaskInRange (s .tasks) (freshTask 1) (λ i h. r .tasks i (omega (arith, r .tasksLength))))

@@ -5,43 +5,48 @@ use Rattle.ranks.specs.Table.{slice}
 use Rattle.records.specs.Split.{split, shareOfSlot, shareOfBuffer, shareOfTask, shareLimit}
 use Rattle.records.specs.Records.{fresh, freshTask}
 use Rattle.records.specs.Bytes.{fromLittleEndian, toLittleEndian, decodeQueue, encodeQueue, decodeBuffer, encodeBuffer, decodeTask, encodeTask, encode}
-use Rattle.records.specs.RecordCases.{exampleQueue, queueBytes, exampleBuffer, bufferBytes, exampleTask, taskBytes, recordCases, splitCases}
+use Rattle.records.specs.RecordCases.{exampleQueue, queueBytes, exampleBuffer, bufferBytes, exampleTask, taskBytes, recordCases, splitCases, freshTaskBytes, LiteralsHold}
 use mathlib.Core.Path.{_≡_, refl, ap}
 use mathlib.Core.List.{flatten}
 
-pub record-cases : map (λ k. k .actual) recordCases ≡ map (λ k. k .expected) recordCases
+record-cases : map (λ k. k .actual) recordCases ≡ map (λ k. k .expected) recordCases
 unfolding range toLittleEndian encodeQueue encodeBuffer encodeTask exampleQueue queueBytes exampleBuffer bufferBytes exampleTask taskBytes recordCases
 record-cases = refl
 
-pub split-cases : map (λ k. k .actual) splitCases ≡ map (λ k. k .expected) splitCases
+split-cases : map (λ k. k .actual) splitCases ≡ map (λ k. k .expected) splitCases
 unfolding range first split shareOfSlot shareOfBuffer shareOfTask shareLimit splitCases
 split-cases = refl
 
-pub queue-read : decodeQueue queueBytes ≡ exampleQueue
+queue-read : decodeQueue queueBytes ≡ exampleQueue
 unfolding slice fromLittleEndian decodeQueue exampleQueue queueBytes
 queue-read = refl
 
-pub buffer-read : decodeBuffer bufferBytes ≡ exampleBuffer
+buffer-read : decodeBuffer bufferBytes ≡ exampleBuffer
 unfolding range slice decodeBuffer exampleBuffer bufferBytes
 buffer-read = refl
 
-pub task-read : decodeTask taskBytes ≡ exampleTask
+task-read : decodeTask taskBytes ≡ exampleTask
 unfolding range slice fromLittleEndian decodeTask exampleTask taskBytes
 task-read = refl
-
--- ---- "Fresh tables are zero but for priorities of 1 to 255."
-
--- the bytes of a fresh task
-unfoldable pub freshTaskBytes : (priority : ℕ) → List ℕ
-freshTaskBytes priority = 0 ∷ 0 ∷ 0 ∷ priority ∷ replicate 132 0
 
 fresh-tasks : (i : ℕ) (priorities : List ℕ) → map encodeTask (mapFromIndex i (λ t p. freshTask p) priorities) ≡ map freshTaskBytes priorities
 unfolding toLittleEndian encodeTask mapFromIndex freshTaskBytes
 fresh-tasks i [] = refl
 fresh-tasks i (p ∷ ps) = ap (λ l. freshTaskBytes p ∷ l) (fresh-tasks _ ps)
 
-pub fresh-tables : (priorities : List ℕ)
+fresh-tables : (priorities : List ℕ)
     → encode (fresh priorities)
     ≡ record { queues = replicate 256 0; pool = replicate 8192 0; tasks = flatten (map freshTaskBytes priorities) }
 unfolding flatten mapWithIndex toLittleEndian encodeQueue encodeBuffer encode fresh
 fresh-tables priorities = λ i. record { queues = replicate 256 0; pool = replicate 8192 0; tasks = flatten (fresh-tasks 0 priorities i) }
+
+pub literals-hold : LiteralsHold
+literals-hold =
+    record {
+      records = record-cases;
+      split = split-cases;
+      queue-read = queue-read;
+      buffer-read = buffer-read;
+      task-read = task-read;
+      fresh-tables = fresh-tables;
+    }

@@ -1,25 +1,26 @@
 -- Bytes written to the tables, and what becomes of the records. Assumes nothing.
 use Prim.Native.Nat.{ℕ, zero, suc, _+_, _-_, _*_, _/_, _%_, _≤_, _<_}
 use native.Mathlib.Omega.{arith}
-use mathlib.Core.Path.{_≡_, refl, sym, ap, ap₂, _∙_, subst}
+use mathlib.Core.Path.{_≡_, refl, sym, ap, _∙_}
 use mathlib.Core.Bool.{Bool, true, false}
-use mathlib.Core.Logic.{_⊎_, inl, inr, ⊎-elim}
+use mathlib.Core.Logic.{⊎-elim}
 use mathlib.Core.List.{List, [], _∷_, _++_, map, append-assoc}
-use lib.Dec.{eqb}
 use lib.ListN.{length, getD, take, drop, set, replicate, length-set, length-map, length-drop, length-append}
-use lib.Seq.{ext-getD, getD-set-same, getD-set-other, drop-cons, drop-drop, take-all, take-at, drop-at, drop-length, length-take-le}
+use lib.Seq.{getD-set-same, getD-set-other, set-getD, drop-cons, drop-drop, take-all, take-at, drop-at, length-take-le}
 use borrow.Author.Tests.{eq-eqb, ne-eqb}
 use Rattle.ranks.specs.Lists.{if_then_else_, mapWithIndex}
 use Rattle.ranks.specs.Position.{Position, noQueue}
 use Rattle.ranks.specs.Table.{slice, byte, records, spliced, positionIn, putPosition, moved}
 use Rattle.ranks.proofs.Tests.{same?}
-use Rattle.ranks.proofs.Lists.{at-mapped, length-mapped, mapped-cong, is-mapped}
+use Rattle.ranks.proofs.Lists.{at-mapped, length-mapped, is-mapped}
 use Rattle.ranks.proofs.Table.{length-records, at-records, length-slice, before, records-put}
-use Rattle.records.specs.Records.{Queue, Buffer, Task, freeQueue, freeBuffer, freshTask}
-use Rattle.records.specs.Bytes.{fromLittleEndian, toLittleEndian, decodeQueue, encodeQueue, decodeBuffer, encodeBuffer, decodeTask, encodeTask, decodeQueues, decodePool, decodeTasks}
-use Rattle.records.specs.Changes.{atIndex, overwriteFront, moveBuffer, moveTask, messageBuffer, withMessage}
-use Rattle.records.proofs.DecodeEncode.{QueueEncodable, BufferEncodable, decode-encode-queue, length-queue, decode-encode-buffer, length-buffer}
+use Rattle.records.specs.Records.{Task, freeBuffer, freshTask}
+use Rattle.records.specs.Bytes.{fromLittleEndian, toLittleEndian, decodeBuffer, encodeBuffer, decodeTask, decodePool, decodeTasks}
+use Rattle.records.specs.Changes.{atIndex, moveBuffer, moveTask, messageBuffer, withMessage}
+use Rattle.records.specs.TaskHeads.{withHead}
+use Rattle.records.proofs.DecodeEncode.{BufferEncodable, from-to-little-endian}
 use Rattle.records.proofs.Access.{at-map}
+use Rattle.records.specs.declared.task.TaskHead.{TaskHead}
 
 -- ---- Numbers of two and four bytes
 
@@ -48,7 +49,11 @@ pub word-number : (r : List ℕ) (i : ℕ) → i + 4 ≤ length r
 unfolding fromLittleEndian
 word-number r i h = rw (four r i h) (omega arith)
 
--- four bytes one by one
+-- two and four bytes one by one
+pub all-two : (l : List ℕ) → length l ≡ 2 → l ≡ byte 0 l ∷ byte 1 l ∷ []
+unfolding slice
+all-two l e = sym (take-all 2 l (omega arith)) ∙ two l 0 (omega arith)
+
 pub all-four : (l : List ℕ) → length l ≡ 4 → l ≡ byte 0 l ∷ byte 1 l ∷ byte 2 l ∷ byte 3 l ∷ []
 unfolding slice
 all-four l e = sym (take-all 4 l (omega arith)) ∙ four l 0 (omega arith)
@@ -83,6 +88,38 @@ module _ {A : Type 0} (read : List ℕ → A) (k n : ℕ) (t : List ℕ) (i : �
   table-put r f e h same =
       ap (map read) (records-put k n t r i e hi h) ∙ map-set read (records k n t) i r
       ∙ ap (set (map read (records k n t)) i) (same ∙ ap f (sym at-table)) ∙ set-each (map read (records k n t)) i f d (omega (arith, length-table))
+
+  abbrev at : A
+  at = read (slice (i * n) n t)
+
+  -- two changes that agree on record i
+  pub changed-as : (f g : A → A) → f at ≡ g at → mapWithIndex (atIndex i f) (map read (records k n t)) ≡ mapWithIndex (atIndex i g) (map read (records k n t))
+  changed-as f g same =
+      let l : List A = map read (records k n t) in
+      let h : i < length l = omega (arith, length-table) in
+      sym (set-each l i f d h) ∙ ap (set l i) (ap f at-table ∙ same ∙ ap g (sym at-table)) ∙ set-each l i g d h
+
+  -- a change that leaves record i as it is
+  pub unchanged : (f : A → A) → f at ≡ at → map read (records k n t) ≡ mapWithIndex (atIndex i f) (map read (records k n t))
+  unchanged f same =
+      let l : List A = map read (records k n t) in
+      let h : i < length l = omega (arith, length-table) in
+      sym (set-getD l i d) ∙ ap (set l i) (at-table ∙ sym same ∙ ap f (sym at-table)) ∙ set-each l i f d h
+
+  -- `f` is done to record i where it passes a test
+  pub changed-if-passes : (test : A → Bool) (f : A → A) → test at ≡ true
+      → mapWithIndex (atIndex i f) (map read (records k n t)) ≡ mapWithIndex (atIndex i (λ a. if test a then f a else a)) (map read (records k n t))
+  changed-if-passes test f e = changed-as f (λ a. if test a then f a else a) (rw e)
+
+  pub unchanged-if-fails : (test : A → Bool) (f : A → A) → test at ≡ false
+      → map read (records k n t) ≡ mapWithIndex (atIndex i (λ a. if test a then f a else a)) (map read (records k n t))
+  unchanged-if-fails test f e = unchanged (λ a. if test a then f a else a) (rw e)
+
+-- record i is written over with bytes that read as `x`
+pub table-written : {A : Type 0} (read : List ℕ → A) (k n : ℕ) (t u r : List ℕ) (i : ℕ) (x : A) → i < k → length t ≡ k * n → length r ≡ n → read r ≡ x
+    → u ≡ spliced t (i * n) r → map read (records k n u) ≡ mapWithIndex (atIndex i (λ _. x)) (map read (records k n t))
+table-written read k n t u r i x h l e same w =
+    ap (λ (v : List ℕ). map read (records k n v)) w ∙ table-put read k n t i h x r (λ _. x) e (omega (arith, before n i k h)) same
 
 -- ---- A rank step, said of the records
 
@@ -179,6 +216,11 @@ module _ (r m : List ℕ) (long : length r ≡ 136) (short : length m ≤ 120) w
         ∙ ap (λ (l : List ℕ). m ++ drop (length m) l) (sym (take-all 120 (drop 16 r) (omega (arith, length-drop 16 r))))) i;
   }
 
+-- a part lent, as the borrow checker says it
+pub slice-lent : (t : List ℕ) (a n : ℕ) → take (a + n - a) (drop a t) ≡ slice a n t
+unfolding slice
+slice-lent t a n = ap (λ (k : ℕ). take k (drop a t)) (let e : a + n - a ≡ n = omega arith in e)
+
 -- a part lent and handed back, as the borrow checker says it
 pub slice-back : (t r : List ℕ) (a e : ℕ) → a ≤ e → length r ≡ e - a → take a t ++ (r ++ drop (e - a) (drop a t)) ≡ spliced t a r
 unfolding spliced
@@ -187,27 +229,43 @@ slice-back t r a e h l =
     ∙ ap (λ (x : List ℕ). take a t ++ r ++ x) (drop-drop (e - a) a t ∙ ap (λ (n : ℕ). drop n t) (let q : a + (e - a) ≡ a + length r = omega arith in q))
 
 -- a task's record lent to code that does `f` to it
-pub tasks-lent : (t r : List ℕ) (i : ℕ) (f : Task → Task) → length t ≡ 4352 → i < 32 → length r ≡ i * 136 + 136 - i * 136
+pub tasks-lent : (t r : List ℕ) (i : ℕ) (f : Task → Task) → length t ≡ 4352 → i < 32 → length r ≡ length (take (i * 136 + 136 - i * 136) (drop (i * 136) t))
     → decodeTask r ≡ f (decodeTask (take (i * 136 + 136 - i * 136) (drop (i * 136) t)))
     → decodeTasks (take (i * 136) t ++ (r ++ drop (i * 136 + 136 - i * 136) (drop (i * 136) t))) ≡ mapWithIndex (atIndex i f) (decodeTasks t)
-unfolding slice
 tasks-lent t r i f l h e same =
-    let n : i * 136 + 136 - i * 136 ≡ 136 = omega arith in
-    ap decodeTasks (slice-back t r (i * 136) (i * 136 + 136) (omega arith) e)
-    ∙ table-put decodeTask 32 136 t i h (freshTask 1) r f (e ∙ n) (omega arith) (same ∙ ap (λ (k : ℕ). f (decodeTask (take k (drop (i * 136) t)))) n)
+    let at = slice-lent t (i * 136) 136 in
+    let n : length r ≡ 136 = e ∙ ap length at ∙ length-slice (i * 136) 136 t (omega arith) in
+    ap decodeTasks (slice-back t r (i * 136) (i * 136 + 136) (omega arith) (omega arith))
+    ∙ table-put decodeTask 32 136 t i h (freshTask 1) r f n (omega arith) (same ∙ ap (λ (x : List ℕ). f (decodeTask x)) at)
 
-pub queue-put : (t u : List ℕ) (i : ℕ) (q : Queue) → length t ≡ 256 → i < 16 → length (encodeQueue q) ≡ 16 → decodeQueue (encodeQueue q) ≡ q → u ≡ spliced t (i * 16) (encodeQueue q)
-    → decodeQueues u ≡ mapWithIndex (atIndex i (λ _. q)) (decodeQueues t)
-queue-put t u i q l h e back w = ap decodeQueues w ∙ table-put decodeQueue 16 16 t i h (freeQueue 0) (encodeQueue q) (λ _. q) e (omega arith) back
+-- a buffer that holds a message has as many bytes as a buffer has
+pub message-fits : (p : Position) (m : List ℕ) → length m ≤ 120 → BufferEncodable (messageBuffer p m)
+message-fits p m h =
+    let z : List ℕ = replicate 120 0 in
+    record { reserved = refl; bytes = omega (arith, length-append m (drop (length m) z), length-drop (length m) z) }
 
-pub message-put : (p : Position) (t u m : List ℕ) (b : ℕ) → length t ≡ 8192 → b < 64 → length m ≤ 120 → u ≡ spliced t (b * 128) (encodeBuffer (messageBuffer p m))
-    → decodePool u ≡ mapWithIndex (atIndex b (λ _. messageBuffer p m)) (decodePool t)
-message-put p t u m b l h short w =
-    ap decodePool w
-    ∙ table-put decodeBuffer 64 128 t b h freeBuffer (encodeBuffer (messageBuffer p m)) (λ _. messageBuffer p m)
-    (length-buffer (messageBuffer p m) fit) (omega arith) (decode-encode-buffer (messageBuffer p m) fit)
-  where
-    fit : BufferEncodable (messageBuffer p m)
-    fit =
-        let z : List ℕ = replicate 120 0 in
-        record { reserved = refl; bytes = omega (arith, length-append m (drop (length m) z), length-drop (length m) z) }
+pub zeros-free : decodeBuffer (replicate 128 0) ≡ freeBuffer
+unfolding decodeBuffer slice
+zeros-free = refl
+
+-- ---- A task's head
+
+abbrev pub headBytes : TaskHead → List ℕ
+headBytes h =
+    h .state ∷ h .queue ∷ h .rank ∷ h .priority ∷ h .status ∷ h .messageLength ∷ byte 0 (h .reserved) ∷ byte 1 (h .reserved) ∷ h .ticksLeft % 256
+    ∷ h .ticksLeft / 256 % 256 ∷ h .ticksLeft / 256 / 256 % 256 ∷ h .ticksLeft / 256 / 256 / 256 % 256 ∷ []
+
+pub head-written : (h : TaskHead) (r : List ℕ) → length (h .reserved) ≡ 2 → h .ticksLeft < 4294967296
+    → decodeTask (spliced r 0 (headBytes h)) ≡ withHead h (decodeTask r)
+unfolding decodeTask spliced slice toLittleEndian
+head-written h r two-long fits = λ i. record {
+  state = h .state;
+  position = record { queue = h .queue; rank = h .rank };
+  priority = h .priority;
+  status = h .status;
+  messageLength = h .messageLength;
+  reserved = sym (all-two (h .reserved) two-long) i;
+  ticksLeft = from-to-little-endian 4 (h .ticksLeft) fits i;
+  reservedAfter = take 4 (drop 12 r);
+  receiveBuffer = take 120 (drop-drop 4 12 r i);
+}

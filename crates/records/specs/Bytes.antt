@@ -1,7 +1,7 @@
 -- Document 01, "Tables": the bytes of each record and of the tables. "Fixed-size records, no header, little-endian."
 use Rattle.ranks.specs.Prelude.{ℕ, zero, suc, _+_, _*_, _/_, _%_, Bool, _&&_, List, [], _∷_, _++_, map, flatten, length, eqb}
 use Rattle.ranks.specs.Table.{slice, byte, records, positionIn}
-use Rattle.records.specs.Layout.{slotCount, queueWidth, bufferCount, bufferWidth, taskCount, taskWidth}
+use Rattle.records.specs.Layout.{capacity, slotCount, queueWidth, bufferCount, bufferWidth, taskCount, taskWidth}
 use Rattle.records.specs.Records.{Queue, Buffer, Task, State}
 
 -- the number whose bytes these are, the lowest first
@@ -36,7 +36,7 @@ encodeQueue q =
     ++ (q .pending ∷ q .waiters ∷ toLittleEndian 4 (q .name)) ++ q .reserved
 
 unfoldable pub decodeBuffer : List ℕ → Buffer
-decodeBuffer r = record { position = positionIn 0 r; messageLength = byte 2 r; reserved = slice 3 5 r; bytes = slice 8 120 r }
+decodeBuffer r = record { position = positionIn 0 r; messageLength = byte 2 r; reserved = slice 3 5 r; bytes = slice 8 capacity r }
 
 unfoldable pub encodeBuffer : Buffer → List ℕ
 encodeBuffer m = m .position .queue ∷ m .position .rank ∷ m .messageLength ∷ m .reserved ++ m .bytes
@@ -52,7 +52,7 @@ decodeTask r =
       reserved = slice 6 2 r;
       ticksLeft = fromLittleEndian (slice 8 4 r);
       reservedAfter = slice 12 4 r;
-      receiveBuffer = slice 16 120 r;
+      receiveBuffer = slice 16 capacity r;
     }
 
 unfoldable pub encodeTask : Task → List ℕ

@@ -1,8 +1,9 @@
 -- Changes to one record.
-use Rattle.ranks.specs.Prelude.{ℕ, Bool, true, false, List, _++_, length, drop, replicate, eqb}
+use Rattle.ranks.specs.Prelude.{ℕ, true, false, List, _++_, length, drop, replicate, eqb}
 use Rattle.ranks.specs.Lists.{if_then_else_}
 use Rattle.ranks.specs.Position.{Position, noQueue}
-use Rattle.records.specs.Records.{Queue, Buffer, Task}
+use Rattle.records.specs.Layout.{capacity}
+use Rattle.records.specs.Records.{Queue, Buffer, Task, readyState, waitingState}
 use Rattle.records.specs.Status.{SUCCESSFUL, WAITING}
 
 -- `f` is done to record `i` of a table, and nothing to the others
@@ -31,6 +32,20 @@ withPending n q = withCounts n (q .waiters) q
 abbrev pub withWaiters : ℕ → Queue → Queue
 withWaiters n q = withCounts (q .pending) n q
 
+abbrev pub withGeneration : ℕ → Queue → Queue
+withGeneration n q =
+    record {
+      live = q .live;
+      attributes = q .attributes;
+      limit = q .limit;
+      maxSize = q .maxSize;
+      generation = n;
+      pending = q .pending;
+      waiters = q .waiters;
+      name = q .name;
+      reserved = q .reserved;
+    }
+
 -- ---- Buffers
 
 -- a message at the start of some bytes; "bytes beyond the length stay as they were"
@@ -43,7 +58,7 @@ moveBuffer p m = record { position = p; messageLength = m .messageLength; reserv
 -- a buffer that holds a message, with "zeros after its message"
 abbrev pub messageBuffer : Position → (message : List ℕ) → Buffer
 messageBuffer p message =
-    record { position = p; messageLength = length message; reserved = replicate 5 0; bytes = overwriteFront message (replicate 120 0) }
+    record { position = p; messageLength = length message; reserved = replicate 5 0; bytes = overwriteFront message (replicate capacity 0) }
 
 -- ---- Tasks
 
@@ -84,12 +99,12 @@ withTicks n w = withWait (w .state) (w .position) n w
 
 -- The task has left its queue and is ready. "Leaving a queue zeroes queue, rank and ticks."
 abbrev pub readyWith : (status : ℕ) → Task → Task
-readyWith status w = withWait 0 noQueue 0 (withResult status (w .messageLength) (w .receiveBuffer) w)
+readyWith status w = withWait readyState noQueue 0 (withResult status (w .messageLength) (w .receiveBuffer) w)
 
 -- The task is ready and has the message: "message copied, status 0, length set"; "bytes beyond the length stay as they were".
 abbrev pub withMessage : (message : List ℕ) → Task → Task
-withMessage message w = withWait 0 noQueue 0 (withResult SUCCESSFUL (length message) (overwriteFront message (w .receiveBuffer)) w)
+withMessage message w = withWait readyState noQueue 0 (withResult SUCCESSFUL (length message) (overwriteFront message (w .receiveBuffer)) w)
 
 -- The task waits: "status 14, length 0, ticks left as given".
 abbrev pub waitingAt : Position → (ticks : ℕ) → Task → Task
-waitingAt p ticks w = withWait 1 p ticks (withResult WAITING 0 (w .receiveBuffer) w)
+waitingAt p ticks w = withWait waitingState p ticks (withResult WAITING 0 (w .receiveBuffer) w)

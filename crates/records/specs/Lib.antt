@@ -6,3 +6,4 @@ pub mod RecordCases
 pub mod Records
 pub mod Split
 pub mod Status
+pub mod TaskHeads

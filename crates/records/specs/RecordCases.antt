@@ -1,11 +1,11 @@
--- Document 01, "Tables": a record of each kind, free and fresh records, and changed records, each with its bytes; and the share of each
--- record.
-use Rattle.ranks.specs.Prelude.{ℕ, List, [], _∷_, _++_, map, replicate}
+-- Document 01, "Tables": a record of each kind, free and fresh records, and changed records, each with its bytes; the share of each record;
+-- and the bytes of fresh tables.
+use Rattle.ranks.specs.Prelude.{ℕ, _≡_, List, [], _∷_, _++_, map, flatten, replicate}
 use Rattle.ranks.specs.Lists.{range}
 use Rattle.ranks.specs.Position.{positionAt}
 use Rattle.records.specs.Split.{shareOfSlot, shareOfBuffer, shareOfTask, shareLimit}
-use Rattle.records.specs.Records.{Queue, Buffer, Task, freeQueue, freeBuffer, freshTask}
-use Rattle.records.specs.Bytes.{encodeQueue, encodeBuffer, encodeTask}
+use Rattle.records.specs.Records.{Queue, Buffer, Task, freeQueue, freeBuffer, freshTask, fresh}
+use Rattle.records.specs.Bytes.{decodeQueue, encodeQueue, decodeBuffer, encodeBuffer, decodeTask, encodeTask, encode}
 use Rattle.records.specs.Changes.{withPending, withWaiters, moveBuffer, messageBuffer, withTicks, moveTask, readyWith, withMessage, waitingAt}
 
 -- ---- Every byte of these is one more than its place.
@@ -61,7 +61,7 @@ infix 60 _are_
 abbrev _are_ : (actual expected : List ℕ) → Expectation
 _are_ actual expected = record { actual = actual; expected = expected }
 
-abbrev zeros : ℕ → List ℕ
+abbrev pub zeros : ℕ → List ℕ
 zeros n = replicate n 0
 
 unfoldable pub recordCases : List Expectation
@@ -81,7 +81,7 @@ recordCases =
     -- a message of two bytes at rank 2 of the queue in slot 4, and a message that moves there
     ∷ (encodeBuffer (messageBuffer (positionAt 4 2) (201 ∷ 202 ∷ [])) are (5 ∷ 2 ∷ 2 ∷ zeros 5 ++ (201 ∷ 202 ∷ zeros 118)))
     ∷ (encodeBuffer (moveBuffer (positionAt 4 2) exampleBuffer) are (5 ∷ 2 ∷ range 3 126))
-    -- "message copied, status 0, length set"; queue, rank and ticks are 0; "delivered bytes beyond the length stay as they were"
+    -- "message copied, status 0, length set"; queue, rank and ticks are 0; "bytes beyond the length stay as they were"
     ∷ (encodeTask (withMessage (201 ∷ 202 ∷ 203 ∷ []) exampleTask)
     are (0 ∷ 0 ∷ 0 ∷ 4 ∷ 0 ∷ 3 ∷ 7 ∷ 8 ∷ 0 ∷ 0 ∷ 0 ∷ 0 ∷ 13 ∷ 14 ∷ 15 ∷ 16 ∷ 201 ∷ 202 ∷ 203 ∷ range 20 117))
     -- a task that timed out
@@ -104,3 +104,22 @@ splitCases =
     -- "In each share the limits of live queues sum to at most 16."
     ∷ (map shareLimit (range 0 5) are (16 ∷ 16 ∷ 16 ∷ 16 ∷ 0 ∷ []))
     ∷ []
+
+-- ---- Fresh tables
+
+-- the bytes of a fresh task
+unfoldable pub freshTaskBytes : (priority : ℕ) → List ℕ
+freshTaskBytes priority = 0 ∷ 0 ∷ 0 ∷ priority ∷ zeros 132
+
+-- ---- The statement
+
+pub record LiteralsHold : Type 0 where
+  pub records : map (λ k. k .actual) recordCases ≡ map (λ k. k .expected) recordCases
+  pub split : map (λ k. k .actual) splitCases ≡ map (λ k. k .expected) splitCases
+  -- the bytes are read back
+  pub queue-read : decodeQueue queueBytes ≡ exampleQueue
+  pub buffer-read : decodeBuffer bufferBytes ≡ exampleBuffer
+  pub task-read : decodeTask taskBytes ≡ exampleTask
+  -- "Fresh tables are zero but for priorities of 1 to 255."
+  pub fresh-tables : (priorities : List ℕ)
+      → encode (fresh priorities) ≡ record { queues = zeros 256; pool = zeros 8192; tasks = flatten (map freshTaskBytes priorities) }

@@ -1,9 +1,9 @@
 -- Document 01, "Tables": the three tables as lists of records, with a field for each field of a record. Reserved bytes are fields too, so
 -- that bytes and records correspond whatever the bytes are.
-use Rattle.ranks.specs.Prelude.{ℕ, _/_, _%_, Bool, true, false, List, getD, replicate, eqb}
+use Rattle.ranks.specs.Prelude.{ℕ, _/_, _%_, Bool, List, getD, take, replicate, eqb, leb}
 use Rattle.ranks.specs.Lists.{mapWithIndex, within}
 use Rattle.ranks.specs.Position.{Position, noQueue}
-use Rattle.records.specs.Layout.{slotCount, bufferCount}
+use Rattle.records.specs.Layout.{capacity, slotCount, bufferCount}
 use Rattle.records.specs.declared.queue.QueueRecord.{QueueRecord}
 
 -- "0 live (0/1); 1 attributes (1 PRIORITY, 2 OPEN); 2 limit; 3 max size; 4-5 generation; 6 pending; 7 waiters; 8-11 name; 12-15 zero"
@@ -46,12 +46,33 @@ hasPriority q = eqb (q .attributes % 2) 1
 abbrev pub isOpen : Queue → Bool
 isOpen q = eqb (q .attributes / 2 % 2) 1
 
+-- "0 state (0 ready, 1 waiting)"
+abbrev pub readyState : ℕ
+readyState = 0
+
+abbrev pub waitingState : ℕ
+waitingState = 1
+
 abbrev pub isWaiting : Task → Bool
-isWaiting w = eqb (w .state) 1
+isWaiting w = eqb (w .state) waitingState
+
+-- "attributes 0 to 3, limit 1 to 16, max size 1 to 120"
+abbrev pub attributesAllowed : ℕ → Bool
+attributesAllowed n = leb n 3
+
+abbrev pub limitAllowed : ℕ → Bool
+limitAllowed n = within 1 16 n
+
+abbrev pub maxSizeAllowed : ℕ → Bool
+maxSizeAllowed n = within 1 capacity n
 
 -- "has length 1 to that queue's max size"; send, urgent and broadcast refuse "size 0 or above max"
 unfoldable pub sizeAllowed : Queue → (size : ℕ) → Bool
 sizeAllowed q size = within 1 (q .maxSize) size
+
+-- the message in a buffer
+abbrev pub messageIn : Buffer → List ℕ
+messageIn m = take (m .messageLength) (m .bytes)
 
 -- ---- Free records, and fresh tables
 
@@ -63,12 +84,12 @@ freeQueue generation =
 
 -- "A free buffer is all zero."
 abbrev pub freeBuffer : Buffer
-freeBuffer = record { position = noQueue; messageLength = 0; reserved = replicate 5 0; bytes = replicate 120 0 }
+freeBuffer = record { position = noQueue; messageLength = 0; reserved = replicate 5 0; bytes = replicate capacity 0 }
 
 abbrev pub freshTask : (priority : ℕ) → Task
 freshTask priority =
     record {
-      state = 0;
+      state = readyState;
       position = noQueue;
       priority = priority;
       status = 0;
@@ -76,7 +97,7 @@ freshTask priority =
       reserved = replicate 2 0;
       ticksLeft = 0;
       reservedAfter = replicate 4 0;
-      receiveBuffer = replicate 120 0;
+      receiveBuffer = replicate capacity 0;
     }
 
 -- "Fresh tables are zero but for priorities of 1 to 255."

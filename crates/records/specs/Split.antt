@@ -1,4 +1,4 @@
--- Document 01, "Tables": which share owns which slots, buffers and tasks. Nothing else says so.
+-- Document 01, "Tables": which share owns which slots, buffers and tasks. No other definition says so.
 use Rattle.ranks.specs.Prelude.{ℕ, _+_, Bool, _&&_, List, [], _∷_, map, length, getD, leb, ltb}
 use Rattle.ranks.specs.Lists.{first}
 

@@ -28,3 +28,12 @@ pub fn write_message(pool: &mut [u8], b: usize, queue: u8, rank: u8, message: &[
     let r = encode_message(queue, rank, message);
     copy_into(pool, b * 128, &r);
 }
+
+// Buffer b becomes free.
+pub fn clear_buffer(pool: &mut [u8], b: usize)
+    requires { ⌜ (length (now pool) ≡ 8192) × (b < 64) ⌝ }
+    ensures { λ _. ⌜ decodePool (now (pool .exit)) ≡ mapWithIndex (atIndex b (λ _. freeBuffer)) (decodePool (now (pool .entry))) ⌝ }
+{
+    let r = [0u8; 128];
+    copy_into(pool, b * 128, &r);
+}

@@ -5,7 +5,7 @@ ghost use lib.ListN.{length};
 ghost use Rattle.ranks.specs.Lists.{mapWithIndex};
 ghost use Rattle.ranks.specs.Table.{slice};
 ghost use Rattle.records.specs.Bytes.{decodeQueue, encodeQueue, decodeQueues};
-ghost use Rattle.records.specs.Changes.{atIndex, withPending, withWaiters};
+ghost use Rattle.records.specs.Changes.{atIndex, withPending, withWaiters, withGeneration};
 use crate::bytes::copy_into;
 use crate::bytes::read_u16;
 use crate::bytes::read_u32;
@@ -35,6 +35,13 @@ impl QueueRecord {
         ensures { λ r. ⌜ r ≡ withWaiters n self ⌝ }
     {
         self.waiters = n;
+        self
+    }
+
+    pub fn with_generation(mut self, n: u16) -> Self
+        ensures { λ r. ⌜ r ≡ withGeneration n self ⌝ }
+    {
+        self.generation = n;
         self
     }
 }

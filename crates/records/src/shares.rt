@@ -1,4 +1,4 @@
-// Which share owns which slot, buffer and task, and where its buffers begin.
+// Which share owns which slot and which task.
 ghost use mathlib.Core.Path.{_≡_};
 ghost use Prim.Native.Nat.{_<_};
 ghost use Rattle.records.specs.Split.{shareOfSlot, shareOfTask};

@@ -7,7 +7,7 @@ use Rattle.records.specs.Records.{State, queueAt, bufferAt, taskAt, fresh}
 use Rattle.records.specs.Bytes.{encodeQueue, encodeBuffer, encodeTask}
 use Rattle.specification.specs.Run.{Event, goodPriorities}
 use Rattle.specification.specs.Call.{Call, argumentsInRange}
-use Rattle.specification.specs.Cases.{TableName, queueTable, poolTable, taskTable, Field, Case, Observation, callsOf, widthOf, expected, paperCases, refusalCases, queueCases, messageCases, waiterCases, cases}
+use Rattle.specification.specs.Cases.{TableName, queueTable, poolTable, taskTable, Field, Case, Seen, callsOf, widthOf, expected, paperCases, refusalCases, queueCases, messageCases, waiterCases, cases}
 use Rattle.specification.proofs.OnRecords.{eventsOnRecords, stateAfter}
 use mathlib.Core.Path.{_≡_, refl, sym, _∙_, ap₂}
 use mathlib.Core.List.{map-append}
@@ -45,12 +45,12 @@ unfoldable pub fieldOnRecords : State → Field → List ℕ
 fieldOnRecords s f = slice (f .place) (length (f .bytes)) (recordBytes s (f .table) (f .number))
 
 -- what is seen of a run from a state: its calls with their answers, and bytes after it
-unfoldable pub observedFrom : State → List Event → List Field → Observation
+unfoldable pub observedFrom : State → List Event → List Field → Seen
 observedFrom s events fields =
     let calls = map (λ e. e .call) events in
     record { events = eventsOnRecords s calls; bytes = map (fieldOnRecords (stateAfter s calls)) fields }
 
-unfoldable pub observedOnRecords : Case → Observation
+unfoldable pub observedOnRecords : Case → Seen
 observedOnRecords k = observedFrom (fresh (k .priorities)) (k .events) (k .fields)
 
 -- a statement that is proved by computing with all the definitions

@@ -4,7 +4,7 @@ use Rattle.ranks.specs.Prelude.{Bool, true, false, List, [], _∷_, _++_, map}
 use Rattle.ranks.specs.Lists.{_implies_, all, every}
 use Rattle.records.specs.Records.{State, isLive}
 use Rattle.specification.specs.Sound.{soundQueue, soundLimits, soundBuffer, soundRanks, soundTask, sound}
-use Rattle.specification.specs.Cases.{Observation}
+use Rattle.specification.specs.Cases.{Seen}
 use Rattle.specification.specs.Images.{Image, ImageCase, changeRecord, written, stateOf, base, allWait, soundImages, badQueues, badLimits, badBuffers, badRanks, badTasks, unsoundImages, expectedOf, imageCases}
 use Rattle.specification.proofs.CasesOnRecords.{observedFrom, Computed, agree-append}
 use mathlib.Core.Path.{_≡_, refl, sym, ap, _∙_}
@@ -20,7 +20,7 @@ parts s =
     ∷ every (λ t w. soundTask s t w) (s .tasks)
     ∷ []
 
-unfoldable pub observedOnImage : ImageCase → Observation
+unfoldable pub observedOnImage : ImageCase → Seen
 observedOnImage k = observedFrom (stateOf (k .image)) (k .events) (k .fields)
 
 -- ---- Computed

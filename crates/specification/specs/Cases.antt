@@ -5,6 +5,7 @@ use Rattle.ranks.specs.Lists.{range}
 use Rattle.ranks.specs.Table.{slice}
 use Rattle.records.specs.Layout.{queueWidth, bufferWidth, taskWidth}
 use Rattle.records.specs.Bytes.{Tables}
+use Rattle.records.specs.RecordCases.{zeros}
 use Rattle.specification.specs.Answer.{Answer}
 use Rattle.specification.specs.Call.{Call, delete, send, urgent, broadcast, receive, getNumberPending, flush, create, ident, onQueue, call, tick}
 use Rattle.specification.specs.Run.{Event, run, freshTables}
@@ -30,11 +31,11 @@ pub record Case : Type 0 where
   pub fields : List Field
 
 -- what is seen of a run: its calls and answers, and the bytes at the places that a case names
-pub record Observation : Type 0 where
+pub record Seen : Type 0 where
   pub events : List Event
   pub bytes : List (List ℕ)
 
-unfoldable pub expected : Case → Observation
+unfoldable pub expected : Case → Seen
 expected k = record { events = k .events; bytes = map (λ f. f .bytes) (k .fields) }
 
 abbrev pub callsOf : Case → List Call
@@ -54,7 +55,7 @@ tableOf t taskTable = t .tasks
 unfoldable pub fieldBytes : Tables → Field → List ℕ
 fieldBytes t f = slice (f .number * widthOf (f .table) + f .place) (length (f .bytes)) (tableOf t (f .table))
 
-unfoldable pub observed : Case → Observation
+unfoldable pub observed : Case → Seen
 observed k =
     let r = run (freshTables (k .priorities)) (callsOf k) in
     record { events = r .events; bytes = map (fieldBytes (r .tables)) (k .fields) }
@@ -139,9 +140,6 @@ inBuffer b place bytes = record { table = poolTable; number = b; place = place; 
 
 abbrev pub inTask : (t place : ℕ) (bytes : List ℕ) → Field
 inTask t place bytes = record { table = taskTable; number = t; place = place; bytes = bytes }
-
-abbrev pub zeros : ℕ → List ℕ
-zeros n = replicate n 0
 
 -- the messages A, B, C, D of one byte
 abbrev A : List ℕ

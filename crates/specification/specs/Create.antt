@@ -1,9 +1,9 @@
 -- Document 01: "Create (name, limit, max size, attributes)".
 use Rattle.ranks.specs.Prelude.{ℕ, suc, _+_, Bool, not, List, [], _∷_, replicate, eqb, leb, ltb}
-use Rattle.ranks.specs.Lists.{within, mapWithIndex, all, firstThat}
-use Rattle.records.specs.Split.{shareOfSlot, shareOfTask, shareLimit}
+use Rattle.ranks.specs.Lists.{mapWithIndex, all, findIndex}
+use Rattle.records.specs.Split.{shareOfSlot, shareLimit}
 use Rattle.records.specs.Layout.{slotCount, idOf}
-use Rattle.records.specs.Records.{Queue, State, queueAt}
+use Rattle.records.specs.Records.{Queue, State, limitAllowed, maxSizeAllowed, queueAt}
 use Rattle.records.specs.Changes.{atIndex}
 use Rattle.records.specs.Status.{SUCCESSFUL, INVALID-NAME, INVALID-SIZE, INVALID-NUMBER, TOO-MANY, UNSATISFIED, INVALID-OPTION}
 use Rattle.specification.specs.Answer.{Outcome, outcome, Refusal, _⇒_}
@@ -15,15 +15,15 @@ isFreeSlot share i q = all (eqb (q .live) 0 ∷ eqb (shareOfSlot i) share ∷ lt
 
 -- "Takes the lowest free slot of the caller's share with generation below 65,535"; 16 if there is none
 unfoldable pub freeSlot : State → (share : ℕ) → ℕ
-freeSlot s share = firstThat (isFreeSlot share) (s .queues)
+freeSlot s share = findIndex (isFreeSlot share) (s .queues)
 
--- "1, 15 (attributes above 3), 4, 3, 5, 6. [...] 5 if there is none. 6 exactly if the share's limits plus this one pass 16."
+-- "1, 15 (attributes above 3), 4, 3, 5, 6. [...] 5 if there is none; [...]. 6 exactly if the share's limits plus this one pass 16."
 unfoldable pub refusals : State → (share name limit maxSize attributes : ℕ) → List Refusal
 refusals s share name limit maxSize attributes =
     (eqb name 0 ⇒ INVALID-NAME)
     ∷ (ltb 3 attributes ⇒ INVALID-OPTION)
-    ∷ (not (within 1 16 limit) ⇒ INVALID-NUMBER)
-    ∷ (not (within 1 120 maxSize) ⇒ INVALID-SIZE)
+    ∷ (not (limitAllowed limit) ⇒ INVALID-NUMBER)
+    ∷ (not (maxSizeAllowed maxSize) ⇒ INVALID-SIZE)
     ∷ (leb slotCount (freeSlot s share) ⇒ TOO-MANY)
     ∷ (ltb (shareLimit share) (limits s share + limit) ⇒ UNSATISFIED)
     ∷ []

@@ -1,6 +1,6 @@
 -- Document 01: "Ident (name, share)".
 use Rattle.ranks.specs.Prelude.{ℕ, Bool, _||_, List, [], _∷_, eqb, leb}
-use Rattle.ranks.specs.Lists.{all, firstThat}
+use Rattle.ranks.specs.Lists.{all, findIndex}
 use Rattle.records.specs.Split.{shareCount, shareOfSlot, shareOfTask}
 use Rattle.records.specs.Layout.{slotCount, idOf}
 use Rattle.records.specs.Records.{Queue, State, isLive, isOpen, queueAt}
@@ -14,7 +14,7 @@ isNamed caller name share i q =
 
 -- "Lowest live slot of that share with the name; in a foreign share only OPEN ones"; 16 if there is none
 unfoldable pub named : State → (caller name share : ℕ) → ℕ
-named s caller name share = firstThat (isNamed caller name share) (s .queues)
+named s caller name share = findIndex (isNamed caller name share) (s .queues)
 
 -- "1 for name 0, then 9, then 1 if not found"
 unfoldable pub refusals : State → (caller name share : ℕ) → List Refusal

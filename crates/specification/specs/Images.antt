@@ -1,5 +1,6 @@
--- Document 01, "Sound tables": a sound image with a bit of everything, for each rule images that break that rule alone, and calls on
--- images that no short run reaches. An image is given by the bytes in which it differs from fresh tables.
+-- Document 01, "Sound tables": a sound image with a bit of everything, for each rule images that break it (alone, where that can be:
+-- what names no live queue breaks the rules on that queue too), and calls on images that no short run reaches. An image is given by the
+-- bytes in which it differs from fresh tables.
 use Rattle.ranks.specs.Prelude.{ℕ, List, [], _∷_, _++_, map, replicate}
 use Rattle.ranks.specs.Lists.{mapWithIndex, range}
 use Rattle.ranks.specs.Table.{spliced}
@@ -8,7 +9,8 @@ use Rattle.records.specs.Bytes.{decodeQueue, encodeQueue, decodeBuffer, encodeB
 use Rattle.records.specs.Changes.{atIndex}
 use Rattle.specification.specs.Call.{tick}
 use Rattle.specification.specs.Run.{Event}
-use Rattle.specification.specs.Cases.{TableName, queueTable, poolTable, taskTable, Field, Observation, _gives_, createNamedBy, createBy, identBy, deleteBy, sendBy, urgentBy, broadcastBy, pollBy, pendingBy, flushBy, answer, done, value, refused, inQueueRecord, inBuffer, inTask, zeros}
+use Rattle.specification.specs.Cases.{TableName, queueTable, poolTable, taskTable, Field, Seen, _gives_, createNamedBy, createBy, identBy, deleteBy, sendBy, urgentBy, broadcastBy, pollBy, pendingBy, flushBy, answer, done, value, refused, inQueueRecord, inBuffer, inTask}
+use Rattle.records.specs.RecordCases.{zeros}
 
 abbrev pub Image : Type 0
 Image = List Field
@@ -153,7 +155,7 @@ badRanks =
 unfoldable pub badTasks : List Image
 badTasks =
     overBase
-    -- "A task's state [is] 0 or 1." "A task's priority is at least 1; bytes 6-7 and 12-15 are zero."
+    -- "[A] task's state [is] 0 or 1." "A task's priority is at least 1; bytes 6-7 and 12-15 are zero."
     (taskByte 30 0 2 ∷ taskByte 30 3 0 ∷ taskByte 2 3 0 ∷ taskByte 30 6 1
     ∷ taskByte 2 7 1 ∷ taskByte 30 12 1 ∷ taskByte 2 15 1
     -- "A ready task has queue, rank and ticks 0, status 0, 7 or 8, length at most 120."
@@ -178,7 +180,7 @@ pub record ImageCase : Type 0 where
   -- expected after the calls
   pub fields : List Field
 
-unfoldable pub expectedOf : ImageCase → Observation
+unfoldable pub expectedOf : ImageCase → Seen
 expectedOf k = record { events = k .events; bytes = map (λ f. f .bytes) (k .fields) }
 
 abbrev on : Image → List Event → List Field → ImageCase
@@ -220,6 +222,6 @@ imageCases =
     ∷ pollBy 8 25 gives value 1 ∷ [])
     (inTask 1 16 (21 ∷ 22 ∷ []) ∷ inTask 7 16 (1 ∷ []) ∷ inTask 8 4 (0 ∷ 1 ∷ zeros 10 ++ (255 ∷ range 2 119))
     ∷ inBuffer 1 0 (1 ∷ 0 ∷ 10 ∷ []) ∷ inBuffer 5 0 (zeros 128) ∷ inBuffer 47 0 (zeros 128) ∷ inBuffer 63 0 (zeros 128) ∷ [])
-    -- X7 an image for each of the five parts of soundness.
+    -- X7 a tick on an image for each part of soundness, computed on records.
     ∷ map (λ image. on image (tick gives refused 10 ∷ []) [])
     (overBase (queueByte 2 0 2 ∷ queueByte 0 2 8 ∷ bufferByte 3 1 1 ∷ bufferByte 0 1 0 ∷ taskByte 30 0 2 ∷ []))

@@ -1,6 +1,6 @@
 -- What the directives ask of the tables, and how a task leaves a queue.
-use Rattle.ranks.specs.Prelude.{ℕ, _-_, Bool, true, false, _||_, not, List, [], _∷_, eqb, leb, ltb}
-use Rattle.ranks.specs.Lists.{if_then_else_, mapWithIndex, all, firstThat}
+use Rattle.ranks.specs.Prelude.{ℕ, _-_, Bool, true, false, _||_, not, List, [], _∷_, eqb, ltb}
+use Rattle.ranks.specs.Lists.{if_then_else_, mapWithIndex, all}
 use Rattle.ranks.specs.Position.{inQueue}
 use Rattle.ranks.specs.Steps.{takenOut, recordAt}
 use Rattle.records.specs.Split.{shareOfSlot, shareOfTask}

@@ -1,9 +1,9 @@
 -- Document 01: "Receive (option 0 wait, 1 no wait; ticks)".
-use Rattle.ranks.specs.Prelude.{ℕ, suc, _-_, Bool, true, false, _&&_, not, List, [], _∷_, take, eqb, ltb}
+use Rattle.ranks.specs.Prelude.{ℕ, suc, _-_, true, false, _&&_, not, List, [], _∷_, eqb, ltb}
 use Rattle.ranks.specs.Lists.{if_then_else_, mapWithIndex, minimum}
 use Rattle.ranks.specs.Position.{positionAt, inQueue}
 use Rattle.ranks.specs.Steps.{inserted, takenOut}
-use Rattle.records.specs.Records.{State, hasPriority, freeBuffer, queueAt, bufferAt, taskAt}
+use Rattle.records.specs.Records.{State, hasPriority, messageIn, freeBuffer, queueAt, bufferAt, taskAt}
 use Rattle.records.specs.Changes.{atIndex, withPending, withWaiters, moveBuffer, withMessage, moveTask, waitingAt}
 use Rattle.records.specs.Status.{SUCCESSFUL, UNSATISFIED, WAITING, INVALID-OPTION}
 use Rattle.specification.specs.Answer.{Outcome, outcome, Refusal, _⇒_}
@@ -21,7 +21,7 @@ received s caller slot b =
     (record {
       queues = mapWithIndex (atIndex slot (λ q. withPending (q .pending - 1) q)) (s .queues);
       pool = mapWithIndex (λ j n. if eqb j b then freeBuffer else moveBuffer (takenOut b slot 0 j (n .position)) n) (s .pool);
-      tasks = mapWithIndex (atIndex caller (withMessage (take (m .messageLength) (m .bytes)))) (s .tasks);
+      tasks = mapWithIndex (atIndex caller (withMessage (messageIn m))) (s .tasks);
     })
 
 -- "at the rear, or with PRIORITY behind all of equal or smaller number": at the least rank of a waiter of greater number, if there is one

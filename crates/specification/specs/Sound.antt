@@ -1,11 +1,11 @@
 -- Document 01, "Sound tables", rule by rule. "Tables are sound exactly if all of this holds."
-use Rattle.ranks.specs.Prelude.{ℕ, suc, pred, Bool, true, false, _&&_, _||_, List, [], _∷_, map, eqb, leb, ltb, drop}
-use Rattle.ranks.specs.Lists.{if_then_else_, _implies_, within, mapWithIndex, all, every, sum, allZero, range}
+use Rattle.ranks.specs.Prelude.{ℕ, pred, Bool, true, false, _&&_, _||_, List, [], _∷_, eqb, leb, ltb, drop}
+use Rattle.ranks.specs.Lists.{if_then_else_, _implies_, mapWithIndex, all, every, sum, allZero, range}
 use Rattle.ranks.specs.Position.{Position, inQueue}
 use Rattle.ranks.specs.Steps.{ranked}
 use Rattle.records.specs.Split.{shareCount, shareOfSlot, shareOfBuffer, shareOfTask, shareLimit}
-use Rattle.records.specs.Layout.{slotCount}
-use Rattle.records.specs.Records.{Queue, Buffer, Task, State, isLive, hasPriority, isOpen, isWaiting, sizeAllowed, queueAt}
+use Rattle.records.specs.Layout.{capacity, slotCount}
+use Rattle.records.specs.Records.{Queue, Buffer, Task, State, isLive, hasPriority, isOpen, readyState, isWaiting, attributesAllowed, limitAllowed, maxSizeAllowed, sizeAllowed, queueAt}
 use Rattle.records.specs.Status.{SUCCESSFUL, TIMEOUT, OBJECT-WAS-DELETED, WAITING}
 
 -- "A queue's live byte [is] 0 or 1. A free queue record is zero but for its generation."
@@ -25,9 +25,9 @@ freeQueueRules q =
 -- most the limit, and pending or waiters 0."
 unfoldable pub liveQueueRules : Queue → List Bool
 liveQueueRules q =
-    leb (q .attributes) 3
-    ∷ within 1 16 (q .limit)
-    ∷ within 1 120 (q .maxSize)
+    attributesAllowed (q .attributes)
+    ∷ limitAllowed (q .limit)
+    ∷ maxSizeAllowed (q .maxSize)
     ∷ leb 1 (q .generation)
     ∷ leb 1 (q .name)
     ∷ allZero (q .reserved)
@@ -99,15 +99,15 @@ soundRanks s slot q =
 unfoldable pub taskRules : Task → List Bool
 taskRules w = leb 1 (w .priority) ∷ allZero (w .reserved) ∷ allZero (w .reservedAfter) ∷ []
 
--- "A task's state [is] 0 or 1. A ready task has queue, rank and ticks 0, status 0, 7 or 8, length at most 120."
+-- "[A] task's state [is] 0 or 1." "A ready task has queue, rank and ticks 0, status 0, 7 or 8, length at most 120."
 unfoldable pub readyTaskRules : Task → List Bool
 readyTaskRules w =
-    eqb (w .state) 0
+    eqb (w .state) readyState
     ∷ eqb (w .position .queue) 0
     ∷ eqb (w .position .rank) 0
     ∷ eqb (w .ticksLeft) 0
     ∷ (eqb (w .status) SUCCESSFUL || eqb (w .status) TIMEOUT || eqb (w .status) OBJECT-WAS-DELETED)
-    ∷ leb (w .messageLength) 120
+    ∷ leb (w .messageLength) capacity
     ∷ []
 
 -- "A waiting one names a live queue of its own share or an OPEN one, with status 14 and length 0."

@@ -1,7 +1,7 @@
 -- What send and urgent share. Document 01: "2, 3 (size 0 or above max), then the waiter at rank 0 if any [...]. Else 5 if full, 13, else the
 -- lowest free buffer of the owner's share".
-use Rattle.ranks.specs.Prelude.{ℕ, suc, Bool, true, false, _&&_, not, List, [], _∷_, length, eqb, leb, ltb}
-use Rattle.ranks.specs.Lists.{if_then_else_, mapWithIndex, firstThat, mask}
+use Rattle.ranks.specs.Prelude.{ℕ, suc, Bool, true, false, _&&_, not, List, [], _∷_, length, eqb, leb}
+use Rattle.ranks.specs.Lists.{if_then_else_, mapWithIndex, findIndex, mask}
 use Rattle.ranks.specs.Position.{positionAt}
 use Rattle.ranks.specs.Steps.{inserted}
 use Rattle.records.specs.Split.{shareOfSlot, shareOfBuffer}
@@ -25,9 +25,9 @@ isFreeOf share b m = eqb (m .position .queue) 0 && eqb (shareOfBuffer b) share
 
 -- "the lowest free buffer of the owner's share", or 64
 unfoldable pub freeBufferOf : State → (share : ℕ) → ℕ
-freeBufferOf s share = firstThat (isFreeOf share) (s .pool)
+freeBufferOf s share = findIndex (isFreeOf share) (s .pool)
 
--- "2, 3, then the waiter at rank 0 if any. [...] Else 5 if full, 13"
+-- "2, 3 (size 0 or above max), then the waiter at rank 0 if any [...]. Else 5 if full, 13"
 unfoldable pub refusals : State → (slot : ℕ) (message : List ℕ) → List Refusal
 refusals s slot message =
     (badSize s slot message ⇒ INVALID-SIZE)

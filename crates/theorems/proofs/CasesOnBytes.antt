@@ -1,4 +1,4 @@
--- The cases and the images hold on bytes: what was computed on records is what a run on the byte tables comes to. Assumes nothing.
+-- The cases hold on bytes: what was computed on records is what a run on the byte tables comes to. Assumes nothing.
 use Prim.Native.Nat.{ℕ, _+_, _-_, _*_, _≤_, _<_}
 use native.Mathlib.Omega.{arith}
 use mathlib.Core.Path.{_≡_, refl, sym, ap, ap₂, _∙_, subst}
@@ -14,7 +14,7 @@ use Rattle.records.specs.Records.{State, queueAt, bufferAt, taskAt, fresh}
 use Rattle.records.specs.Bytes.{Tables, encode}
 use Rattle.specification.specs.Call.{Call, argumentsInRange}
 use Rattle.specification.specs.Run.{Event, Run, run, goodPriorities, freshTables}
-use Rattle.specification.specs.Cases.{TableName, queueTable, poolTable, taskTable, Field, Case, Observation, callsOf, widthOf, fieldBytes, observed, expected, cases}
+use Rattle.specification.specs.Cases.{TableName, queueTable, poolTable, taskTable, Field, Case, Seen, callsOf, widthOf, fieldBytes, observed, expected, cases}
 use Rattle.theorems.specs.CasesHold.{CasesHold}
 use Rattle.ranks.proofs.Lists.{holds}
 use Rattle.ranks.proofs.Table.{drop-take}
@@ -68,7 +68,7 @@ module _ (s : State) (z : Sized s) (f : Encodable s) where
 
 -- ---- What is seen of a run from records that fit their bytes
 
-abbrev pub seenFrom : Tables → List Event → List Field → Observation
+abbrev pub seenFrom : Tables → List Event → List Field → Seen
 seenFrom t events fields =
     let r = run t (map (λ e. e .call) events) in
     record { events = r .events; bytes = map (fieldBytes (r .tables)) fields }

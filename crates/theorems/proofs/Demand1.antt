@@ -3,10 +3,10 @@ use Prim.Native.Nat.{ℕ, suc, _≤_, _<_}
 use native.Mathlib.Omega.{arith}
 use mathlib.Core.Path.{_≡_, refl, sym, ap, _∙_, subst}
 use mathlib.Core.Bool.{Bool, true, false, not, _&&_, true≢false, false≢true}
-use mathlib.Core.Logic.{_⊎_, inl, inr, _↔_}
-use mathlib.Core.List.{List, [], _∷_, _++_}
+use mathlib.Core.Logic.{_⊎_, inl, inr, ⊎-elim, _↔_}
+use mathlib.Core.List.{List, [], _∷_, _++_, map}
 use lib.Dec.{eqb, leb, ltb}
-use Rattle.ranks.specs.Lists.{if_then_else_}
+use Rattle.ranks.specs.Lists.{if_then_else_, all}
 use Rattle.records.specs.Split.{shareOfTask}
 use Rattle.records.specs.Layout.{slotOf}
 use Rattle.records.specs.Records.{State}
@@ -17,7 +17,7 @@ use Rattle.specification.specs.Call.{Operation, Directive, Call, delete, send, 
 use Rattle.specification.specs.Sound.{sound}
 use Rattle.specification.specs.Lookup.{hasWaiter, hasMessage}
 use Rattle.specification.specs.Step.{badCaller, commonRefusals, operationRefusals, directiveRefusals, ownRefusals, refusals, operationEffect, effect, encoded, step}
-use Rattle.specification.proofs.Refused.{Statuses}
+use Rattle.specification.proofs.Refused.{None, Statuses, refused-with, refuses-none}
 use Rattle.theorems.specs.SoundTables.{NotRefused}
 use Rattle.theorems.specs.Demands.{FirstThatHolds, here, later, Demand1}
 use Rattle.specification.specs.Create
@@ -83,7 +83,7 @@ first-status P p (later h f) = first-status P (p .1) f
 
 -- one of a directive's own
 abbrev pub Own : ℕ → Type 0
-Own n = (1 ≤ n) × (n ≤ 15) × (n ≡ 10 → ⊥) × (n ≡ 11 → ⊥) × (n ≡ 14 → ⊥)
+Own n = (1 ≤ n) × (n ≤ 15) × (n ≡ 10 → ⊥) × (n ≡ 11 → ⊥) × (n ≡ 14 → ⊥) × (n ≡ 7 → ⊥) × (n ≡ 8 → ⊥)
 
 operation-statuses : (s : State) (caller slot : ℕ) (o : Operation) → Statuses Own (operationRefusals s caller slot o)
 unfolding operationRefusals Delete.refusals Submit.refusals Broadcast.refusals Receive.refusals Flush.refusals
@@ -117,6 +117,39 @@ call-statuses s c = go c (weaken Own Refuses (λ n p. (p .0, (let h = p .1 in om
     go : (c : Call) → Statuses Refuses (ownRefusals s c) → Statuses Refuses (commonRefusals s c ++ ownRefusals s c)
     go (call k d) p = (omega arith, (omega arith, p))
     go tick p = (omega arith, p)
+
+-- ---- 0 or 14
+
+abbrev noneHolds : List Refusal → Bool
+noneHolds rs = all (map (λ (r : Refusal). not (r .holds)) rs)
+
+to-none : (rs : List Refusal) → noneHolds rs ≡ true → None rs
+unfolding all
+to-none [] e = tt
+to-none (r ∷ rs) e = go (r .holds) refl e (to-none rs)
+  where
+    go : (b : Bool) → r .holds ≡ b → elim (not b) [ true ↦ noneHolds rs | false ↦ false ] ≡ true → (noneHolds rs ≡ true → None rs) → None (r ∷ rs)
+    go true h e ih = absurd (false≢true e)
+    go false h e ih = (h, ih e)
+
+from-none : (rs : List Refusal) → None rs → noneHolds rs ≡ true
+unfolding all
+from-none [] n = refl
+from-none (r ∷ rs) n = rw (n .0) (from-none rs (n .1))
+
+module _ (t : Tables) (c : Call) where
+  accepted-none : NotRefused (step t c .answer) → noneHolds (refusals t c) ≡ true
+  unfolding step refusals
+  accepted-none h =
+      from-none (refusals t c)
+      (refused-with (λ o. NotRefused (o .answer) → None (refusals t c)) t (refusals t c) _ (omega arith, call-statuses (decode t) c)
+      (λ n q r. absurd (⊎-elim (λ e. let k = q .0 in omega arith) (q .2) r)) (λ n r. n) h)
+
+  none-accepted : noneHolds (refusals t c) ≡ true → NotRefused (step t c .answer)
+  unfolding step
+  none-accepted e =
+      subst (λ (o : Outcome Tables). NotRefused (o .answer)) (sym (refuses-none t (refusals t c) _ (to-none (refusals t c) e)))
+      (effect-not-refused (decode t) c)
 
 -- ---- 16, 10, 11
 
@@ -203,10 +236,17 @@ only-caller (unsound z h k) = absurd (omega arith)
 only-caller (caller z h k l) = (h, k, l)
 only-caller (own p) = absurd (p .3 refl)
 
+only-own : {t : Tables} {c : Call} (n : ℕ) → n < 10 → Reason t c n → Own n
+only-own n h (shape z k) = absurd (omega arith)
+only-own n h (unsound z k l) = absurd (omega arith)
+only-own n h (caller z k l m) = absurd (omega arith)
+only-own n h (own p) = p
+
 pub demand-1 : Demand1
 demand-1 =
     record {
       exactly = λ t c n a b. (is-first t c n a b, status-is t c n);
+      accepted = λ t c. (accepted-none t c, none-accepted t c);
       refused = λ t c a b. first-is t c _ (is-first t c _ a b refl);
       bad-shape = λ t c. (λ e. only-shape (why t c 16 (λ z. omega arith) (λ z. omega arith) e), λ h. status-is t c 16 (shape-first t c h));
       corrupt =
@@ -215,4 +255,9 @@ demand-1 =
           λ t k d.
           (λ e. only-caller (why t (call k d) 11 (λ z. omega arith) (λ z. omega arith) e), λ (h, a, b). status-is t (call k d) 11 (caller-first t k d h a b));
       tick-has-no-caller = λ t e. only-caller (why t tick 11 (λ z. omega arith) (λ z. omega arith) e) .2;
+      only-to-tasks =
+          λ t c. (
+            λ e. only-own 7 (omega arith) (why t c 7 (λ z. omega arith) (λ z. omega arith) e) .5 refl,
+            λ e. only-own 8 (omega arith) (why t c 8 (λ z. omega arith) (λ z. omega arith) e) .6 refl,
+          );
     }

@@ -8,7 +8,7 @@ use mathlib.Core.List.{List, [], _∷_, _++_, map}
 use lib.Dec.{eqb}
 use lib.Count.{ones}
 use borrow.Author.Tests.{ne-eqb}
-use Rattle.ranks.specs.Lists.{all}
+use Rattle.ranks.specs.Lists.{all, mapWithIndex}
 use Rattle.records.specs.Records.{State, queueAt, bufferAt, taskAt, fresh}
 use Rattle.records.specs.Bytes.{Tables, decode}
 use Rattle.records.specs.Status.{CORRUPT, BAD-CALLER, BAD-SHAPE}
@@ -135,6 +135,7 @@ module _ (ps : List ℕ) (calls : List Call) (good : goodPriorities ps ≡ true)
 -- ---- Put together
 
 pub demand-2 : Demand2
+unfolding waitersOf mapWithIndex
 demand-2 =
     record {
       sound-stays = λ t c st args. sound-stays t st c args;

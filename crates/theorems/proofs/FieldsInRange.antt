@@ -15,7 +15,7 @@ use Rattle.ranks.specs.Position.{inQueue}
 use Rattle.ranks.specs.Table.{slice, byte, records}
 use Rattle.records.specs.Records.{Queue, Buffer, Task, State, queueAt, bufferAt, taskAt, freeQueue, freeBuffer, freshTask}
 use Rattle.records.specs.Bytes.{Tables, fromLittleEndian, decodeQueue, decodeBuffer, decodeTask, decode, encode, rightLengths}
-use Rattle.records.specs.InRange.{AllBytes, ByteTables, Bytes, QueueInRange, BufferInRange, TaskInRange, FieldsInRange}
+use Rattle.records.specs.InRange.{AllBytes, ByteTables, ByteList, QueueInRange, BufferInRange, TaskInRange, FieldsInRange}
 use Rattle.records.specs.Status.{SUCCESSFUL, TIMEOUT, OBJECT-WAS-DELETED}
 use Rattle.specification.specs.Sound.{taskRules, freeBufferRules}
 use Rattle.ranks.proofs.Lists.{length-mapped, holds}
@@ -58,7 +58,7 @@ module _ (r : List ℕ) (n : ℕ) (len : length r ≡ n) (b : AllBytes r) where
   at : (i : ℕ) → i < n → byte i r < 256
   at i h = b .below i (omega arith)
 
-  some : (i k : ℕ) → i + k ≤ n → Bytes k (slice i k r)
+  some : (i k : ℕ) → i + k ≤ n → ByteList k (slice i k r)
   some i k h = record { count = length-slice r i k (omega arith); each = bytes-slice r b i k }
 
   number : (i k : ℕ) → i + k ≤ n → fromLittleEndian (slice i k r) < 256 ^ k
@@ -112,9 +112,9 @@ decoded t b =
     let (lq, lp, lt) = lengths t (b .lengths) in
     let z = decoded-sized t in
     record {
-      slotCount = z .queues;
-      bufferCount = z .pool;
-      taskCount = z .tasks;
+      queuesLength = z .queues;
+      poolLength = z .pool;
+      tasksLength = z .tasks;
       queues =
           λ i h.
           subst QueueInRange (sym (queue-at t i h))
@@ -132,9 +132,9 @@ decoded t b =
 -- ---- Encoded
 
 pub in-range-sized : {s : State} → FieldsInRange s → Sized s
-in-range-sized r = record { queues = r .slotCount; pool = r .bufferCount; tasks = r .taskCount }
+in-range-sized r = record { queues = r .queuesLength; pool = r .poolLength; tasks = r .tasksLength }
 
-data-of : {l : List ℕ} → Bytes 120 l → Data l
+data-of : {l : List ℕ} → ByteList 120 l → Data l
 data-of b = record { long = b .count; each = b .each }
 
 pub in-range-fits : {s : State} → FieldsInRange s → Encodable s
@@ -174,7 +174,7 @@ zeros-are-bytes (n ∷ l) e = go (eqb n 0) refl e (zeros-are-bytes l)
     go true p e ih = bytes-cons (let z : n ≡ 0 = eqb-true _ _ p in omega arith) (ih e)
     go false p e ih = absurd (mathlib.Core.Bool.false≢true e)
 
-zeros : {n : ℕ} {l : List ℕ} → length l ≡ n → allZero l ≡ true → Bytes n l
+zeros : {n : ℕ} {l : List ℕ} → length l ≡ n → allZero l ≡ true → ByteList n l
 zeros {l = l} e z = record { count = e; each = zeros-are-bytes l z }
 
 pub count-bound : (bs : List Bool) → count bs ≤ length bs
@@ -191,7 +191,7 @@ module _ (s : State) (g : SoundFacts s) where
   pub tasks-ranked : (i : ℕ) → i < 16 → RankedTable (λ (w : Task). w .position) (freshTask 1) 32 i (queueAt s i .waiters) (s .tasks)
   tasks-ranked i h = record { long = g .sized .tasks; ranks = g .waiters i h }
 
-  -- "all 32 tasks may wait on one queue", and no more
+  -- all 32 tasks may wait on one queue, and no more
   pub waiters-bound : (i : ℕ) → i < 16 → queueAt s i .waiters ≤ 32
   waiters-bound i h =
       let tests = mapWithIndex (λ j (w : Task). inQueue i (w .position)) (s .tasks) in
@@ -243,7 +243,7 @@ module _ (s : State) (g : SoundFacts s) where
         m : BufferFits (bufferAt s b)
         m = f .pool b h
 
-        d : Bytes 120 (bufferAt s b .bytes)
+        d : ByteList 120 (bufferAt s b .bytes)
         d = record { count = m .bytes .long; each = m .bytes .each }
 
         unused : Unused (bufferAt s b) → BufferInRange (bufferAt s b)
@@ -275,13 +275,13 @@ module _ (s : State) (g : SoundFacts s) where
         w : TaskFits (taskAt s t)
         w = f .tasks t h
 
-        reserved′ : Bytes 2 (taskAt s t .reserved)
+        reserved′ : ByteList 2 (taskAt s t .reserved)
         reserved′ = zeros (w .reserved) (holds _ (own-rules s g t h) .1 .0)
 
-        after′ : Bytes 4 (taskAt s t .reservedAfter)
+        after′ : ByteList 4 (taskAt s t .reservedAfter)
         after′ = zeros (w .reservedAfter) (holds _ (own-rules s g t h) .1 .1 .0)
 
-        d : Bytes 120 (taskAt s t .receiveBuffer)
+        d : ByteList 120 (taskAt s t .receiveBuffer)
         d = record { count = w .receiveBuffer .long; each = w .receiveBuffer .each }
 
         small : (eqb (taskAt s t .status) SUCCESSFUL || eqb (taskAt s t .status) TIMEOUT || eqb (taskAt s t .status) OBJECT-WAS-DELETED) ≡ true
@@ -325,9 +325,9 @@ module _ (s : State) (g : SoundFacts s) where
     pub sound-in-range : FieldsInRange s
     sound-in-range =
         record {
-          slotCount = g .sized .queues;
-          bufferCount = g .sized .pool;
-          taskCount = g .sized .tasks;
+          queuesLength = g .sized .queues;
+          poolLength = g .sized .pool;
+          tasksLength = g .sized .tasks;
           queues = queue-in-range;
           pool = buffer-in-range;
           tasks = task-in-range;

@@ -20,7 +20,7 @@ use Rattle.specification.specs.Tick.{tickTask, tickTasks, expires, isTimed}
 use Rattle.specification.specs.Run.{Event}
 use Rattle.specification.specs.Step.{commonRefusals, directiveRefusals, ownRefusals, operationEffect, effect}
 use Rattle.theorems.specs.Demands.{isCreate, issued, distinct}
-use Rattle.theorems.specs.QueueLists.{isIn}
+use Rattle.theorems.specs.QueueLists.{member}
 use Rattle.ranks.proofs.Lists.{at-mapped}
 use Rattle.ranks.proofs.Tests.{and}
 use Rattle.specification.proofs.OnRecords.{callOnRecords, eventsOnRecords}
@@ -125,8 +125,8 @@ newer-grown s s′ up (n ∷ ns) k =
     (let h = up (slotOf n) (omega arith) in let l = k .0 in omega arith, newer-grown s s′ up ns (k .1))
 
 -- an id whose slot has its generation is not among them
-not-newer : (s : State) (n : ℕ) → generationOf n ≡ queueAt s (slotOf n) .generation → (ns : List ℕ) → Newer s ns → isIn n ns ≡ false
-unfolding Newer isIn
+not-newer : (s : State) (n : ℕ) → generationOf n ≡ queueAt s (slotOf n) .generation → (ns : List ℕ) → Newer s ns → member n ns ≡ false
+unfolding Newer member
 not-newer s n e [] k = refl
 not-newer s n e (m ∷ ns) k =
     rw (ne-eqb n m (λ z. let h : queueAt s (slotOf n) .generation < generationOf n = subst (λ (j : ℕ). queueAt s (slotOf j) .generation < generationOf j) (sym z) (k .0) in omega arith))

@@ -8,7 +8,6 @@ use lib.Dec.{ltb, leb}
 use lib.ListN.{length, getD, take, drop, replicate, length-append, length-take, length-drop}
 use borrow.Author.Tests.{ltb-true, leb-true}
 use Rattle.ranks.specs.Lists.{all, mapWithIndex}
-use Rattle.ranks.specs.Lists
 use Rattle.ranks.specs.Table.{spliced}
 use Rattle.records.specs.Records.{Queue, Buffer, Task, State, freeQueue, freeBuffer, freshTask, queueAt, fresh}
 use Rattle.records.specs.Bytes.{Tables, decodeQueue, encodeQueue, decodeBuffer, encodeBuffer, decodeTask, encodeTask, decode, encode}
@@ -17,11 +16,10 @@ use Rattle.records.specs.InRange.{AllBytes, QueueInRange, BufferInRange, TaskIn
 use Rattle.records.specs.Status.{CORRUPT}
 use Rattle.specification.specs.Answer.{Answer, Outcome, refuse, refuseIfAny}
 use Rattle.specification.specs.Call.{Call, call, tick, argumentsInRange}
-use Rattle.specification.specs.Call
 use Rattle.specification.specs.Run.{Event, run, goodPriorities}
 use Rattle.specification.specs.Sound.{sound}
 use Rattle.specification.specs.Step.{commonRefusals, encoded, step}
-use Rattle.specification.specs.Cases.{TableName, queueTable, poolTable, taskTable, Field, Observation, widthOf, fieldBytes}
+use Rattle.specification.specs.Cases.{TableName, queueTable, poolTable, taskTable, Field, Seen, widthOf, fieldBytes}
 use Rattle.specification.specs.Images.{Image, changeRecord, written, stateOf, base, allWait, soundImages, badQueues, badLimits, badBuffers, badRanks, badTasks, unsoundImages, ImageCase, expectedOf, imageCases}
 use Rattle.theorems.specs.CasesHold.{imageTables, observedOnImage, Every, ImagesHold}
 use Rattle.theorems.specs.SoundTables.{SoundTables}
@@ -31,7 +29,6 @@ use Rattle.records.proofs.ByteLists.{bytes-append, bytes-take, bytes-drop, byte
 use Rattle.records.proofs.DecodeEncode.{length-queue, length-buffer, length-task}
 use Rattle.specification.proofs.CasesOnRecords.{fieldOnRecords, observedFrom, fieldInRange, countOf}
 use Rattle.specification.proofs.OnRecords.{callOnRecords, eventsOnRecords, stateAfter}
-use Rattle.specification.proofs.ImagesOnRecords
 use Rattle.specification.proofs.ImagesOnRecords.{sound-images, unsound-images, image-cases}
 use Rattle.specification.proofs.SoundFacts.{Sized, SoundFacts, sound-facts}
 use Rattle.theorems.proofs.CasesOnBytes.{map-where, field-bytes, seenFrom, seen-from}
@@ -41,6 +38,9 @@ use Rattle.theorems.proofs.Fresh.{priorities, fresh-sound}
 use Rattle.theorems.proofs.Noninterference.{fresh-fits}
 use Rattle.theorems.proofs.OnBytes.{step-on-records}
 use Rattle.theorems.proofs.SoundSteps.{encoded-sound}
+use Rattle.ranks.specs.Lists
+use Rattle.specification.specs.Call
+use Rattle.specification.proofs.ImagesOnRecords
 
 -- ---- An image's records are in range
 
@@ -80,11 +80,11 @@ module _ (s : State) (r : FieldsInRange s) (n place : ℕ) (new : List ℕ) (b :
   unfolding changeRecord
   change-queue h =
       record {
-        slotCount = length-mapped _ (s .queues) ∙ r .slotCount;
-        bufferCount = r .bufferCount;
-        taskCount = r .taskCount;
+        queuesLength = length-mapped _ (s .queues) ∙ r .queuesLength;
+        poolLength = r .poolLength;
+        tasksLength = r .tasksLength;
         queues =
-            one-fits QueueInRange (freeQueue 0) 16 (s .queues) (r .slotCount) (r .queues) n _
+            one-fits QueueInRange (freeQueue 0) 16 (s .queues) (r .queuesLength) (r .queues) n _
             (λ _ q.
             let len = length-queue _ (record { generation = q .generation; name = q .name; reserved = q .reserved .count }) in
             queue-decoded _ (spliced-length 16 _ new place len h) (spliced-bytes 16 _ new place len h (bytes-queue _ q) b));
@@ -96,12 +96,12 @@ module _ (s : State) (r : FieldsInRange s) (n place : ℕ) (new : List ℕ) (b :
   unfolding changeRecord
   change-buffer h =
       record {
-        slotCount = r .slotCount;
-        bufferCount = length-mapped _ (s .pool) ∙ r .bufferCount;
-        taskCount = r .taskCount;
+        queuesLength = r .queuesLength;
+        poolLength = length-mapped _ (s .pool) ∙ r .poolLength;
+        tasksLength = r .tasksLength;
         queues = r .queues;
         pool =
-            one-fits BufferInRange freeBuffer 64 (s .pool) (r .bufferCount) (r .pool) n _
+            one-fits BufferInRange freeBuffer 64 (s .pool) (r .poolLength) (r .pool) n _
             (λ _ m.
             let len = length-buffer _ (record { reserved = m .reserved .count; bytes = m .bytes .count }) in
             buffer-decoded _ (spliced-length 128 _ new place len h) (spliced-bytes 128 _ new place len h (bytes-buffer _ m) b));
@@ -112,13 +112,13 @@ module _ (s : State) (r : FieldsInRange s) (n place : ℕ) (new : List ℕ) (b :
   unfolding changeRecord
   change-task h =
       record {
-        slotCount = r .slotCount;
-        bufferCount = r .bufferCount;
-        taskCount = length-mapped _ (s .tasks) ∙ r .taskCount;
+        queuesLength = r .queuesLength;
+        poolLength = r .poolLength;
+        tasksLength = length-mapped _ (s .tasks) ∙ r .tasksLength;
         queues = r .queues;
         pool = r .pool;
         tasks =
-            one-fits TaskInRange (freshTask 1) 32 (s .tasks) (r .taskCount) (r .tasks) n _
+            one-fits TaskInRange (freshTask 1) 32 (s .tasks) (r .tasksLength) (r .tasks) n _
             (λ _ w.
             let len =
             length-task _

@@ -1,26 +1,29 @@
 -- Broadcast, delete, flush and pending on a queue as a list. Assumes nothing.
-use Prim.Native.Nat.{ℕ, _<_}
+use Prim.Native.Nat.{ℕ, suc, _<_}
+use native.Mathlib.Omega.{arith}
 use mathlib.Core.Path.{_≡_, refl, ap, _∙_}
+use mathlib.Core.Bool.{false}
 use mathlib.Core.List.{List, []}
 use lib.Dec.{eqb}
 use lib.ListN.{length, getD}
+use borrow.Author.Tests.{ne-eqb}
 use Rattle.ranks.specs.Lists.{if_then_else_, mapWithIndex}
 use Rattle.ranks.specs.Position.{noQueue}
-use Rattle.records.specs.Records.{Queue, Task, State, queueAt, taskAt, freeQueue, freeBuffer, freshTask}
+use Rattle.records.specs.Records.{Queue, Buffer, Task, State, queueAt, bufferAt, taskAt, freeQueue, freeBuffer, freshTask, messageIn}
 use Rattle.records.specs.Changes.{atIndex, withPending, withWaiters, withMessage, readyWith}
 use Rattle.records.specs.Status.{OBJECT-WAS-DELETED}
 use Rattle.specification.specs.Lookup.{waitersOf, withoutWaiters, withoutMessages}
+use Rattle.theorems.specs.QueueLists.{contents, leaves, member, SameButPosition, OperationOnLists}
+use Rattle.ranks.proofs.ByRank.{counted}
+use Rattle.specification.proofs.SoundFacts.{Sized, SoundFacts}
+use Rattle.theorems.proofs.FieldsInRange.{buffers-ranked, tasks-ranked}
+use Rattle.theorems.proofs.ListSteps.{cleared-at, cleared-other, cleared-agree}
+use Rattle.theorems.proofs.ListContents.{same-messages, same-waiters, kept-messages, kept-waiters, both-lists, no-messages, no-waiters, mask-none, same-task, own-kept, changed-queues, waiters-mask, count-waiters, count-messages, waits-in}
 use Rattle.specification.specs.Broadcast
 use Rattle.specification.specs.Delete
 use Rattle.specification.specs.Flush
 use Rattle.specification.specs.GetNumberPending
-use Rattle.theorems.specs.QueueLists.{messageIn, contents, leaves, isIn, SameButPosition, OperationOnLists}
-use Rattle.ranks.proofs.ByRank.{counted}
-use Rattle.specification.proofs.SoundFacts.{Sized, SoundFacts}
-use Rattle.theorems.proofs.FieldsInRange.{buffers-ranked, tasks-ranked}
 use Rattle.theorems.proofs.CountChange
-use Rattle.theorems.proofs.ListSteps.{cleared-at, cleared-other, cleared-agree}
-use Rattle.theorems.proofs.ListContents.{same-messages, same-waiters, kept-messages, kept-waiters, both-lists, no-messages, no-waiters, mask-none, same-task, own-kept, changed-queues, waiters-mask, count-waiters, count-messages, waits-in}
 
 -- The queue in the slot is changed by h, and all its waiters leave, or all its messages are removed.
 module _ {s : State} (g : SoundFacts s) (slot : ℕ) (slot< : slot < 16) (s′ : State) (z′ : Sized s′) (h : Queue → Queue)
@@ -37,7 +40,7 @@ module _ {s : State} (g : SoundFacts s) (slot : ℕ) (slot< : slot < 16) (s′ :
     other-waiters i i< ne =
         same-waiters g i i< s′ z′ (ap (λ (q : Queue). q .waiters) (other i i< ne)) (λ j lt. rw tasks (cleared-agree (tasks-ranked s g i i<) slot f gone ne j lt))
 
-    cleared-tasks : (k : ℕ) → k < 32 → SameButPosition (if isIn k (contents s slot .waiters) then f (taskAt s k) else taskAt s k) (taskAt s′ k)
+    cleared-tasks : (k : ℕ) → k < 32 → SameButPosition (if member k (contents s slot .waiters) then f (taskAt s k) else taskAt s k) (taskAt s′ k)
     unfolding withoutWaiters
     cleared-tasks k lt = same-task _ _ (ap (λ (ws : List Task). getD ws k (freshTask 1)) tasks ∙ cleared-at (tasks-ranked s g slot slot<) slot f k lt _ (waits-in g slot slot< k lt))
 
@@ -52,6 +55,14 @@ module _ {s : State} (g : SoundFacts s) (slot : ℕ) (slot< : slot < 16) (s′ :
         (λ j lt. rw pool (cleared-agree (buffers-ranked s g i i<) slot (λ _. freeBuffer) (λ _. refl) ne j lt))
         (λ j lt q. rw pool (ap messageIn (cleared-other (buffers-ranked s g i i<) slot (λ _. freeBuffer) ne j lt q)))
 
+    still-free : (b : ℕ) → b < 64 → bufferAt s b .position .queue ≡ 0 → bufferAt s′ b .position .queue ≡ 0
+    unfolding withoutMessages
+    still-free b lt free =
+        ap (λ (ms : List Buffer). getD ms b freeBuffer .position .queue) pool
+        ∙ ap (λ (m : Buffer). m .position .queue)
+        (cleared-at (buffers-ranked s g slot slot<) slot (λ _. freeBuffer) b lt false (ne-eqb (bufferAt s b .position .queue) (suc slot) (λ z. omega arith)))
+        ∙ free
+
 module _ {s : State} (g : SoundFacts s) (slot : ℕ) (slot< : slot < 16) where
   abbrev ms : List (List ℕ)
   ms = contents s slot .messages
@@ -60,7 +71,7 @@ module _ {s : State} (g : SoundFacts s) (slot : ℕ) (slot< : slot < 16) where
   ws = contents s slot .waiters
 
   pub broadcast-lists : (message : List ℕ) → Sized (Broadcast.effect s slot message .after)
-      → OperationOnLists s slot (Broadcast.effect s slot message) (leaves ms [] ws (length ws)) (λ k w. if isIn k ws then withMessage message w else w) (λ q. q)
+      → OperationOnLists s slot (Broadcast.effect s slot message) (leaves ms [] ws (length ws)) (λ k w. if member k ws then withMessage message w else w) (λ q. q)
   unfolding Broadcast.effect waitersOf
   broadcast-lists message z′ =
       record {
@@ -71,6 +82,7 @@ module _ {s : State} (g : SoundFacts s) (slot : ℕ) (slot< : slot < 16) where
         woken = waiters-mask g slot slot<;
         tasks = cleared-tasks g slot slot< s′ z′ (withWaiters 0) refl (withMessage message) (λ w. refl) refl;
         queues = changed-queues g slot slot< s′ z′ (withWaiters 0) (λ q. q) refl (λ q. refl);
+        queued = λ b h free used. absurd (used free);
       }
     where
       s′ : State
@@ -80,7 +92,7 @@ module _ {s : State} (g : SoundFacts s) (slot : ℕ) (slot< : slot < 16) where
       messages = kept-messages g slot slot< s′ z′ (withWaiters 0) refl refl refl
 
   pub delete-lists : Sized (Delete.effect s slot .after)
-      → OperationOnLists s slot (Delete.effect s slot) (leaves [] [] ws 0) (λ k w. if isIn k ws then readyWith OBJECT-WAS-DELETED w else w)
+      → OperationOnLists s slot (Delete.effect s slot) (leaves [] [] ws 0) (λ k w. if member k ws then readyWith OBJECT-WAS-DELETED w else w)
       (λ q. freeQueue (q .generation))
   unfolding Delete.effect
   delete-lists z′ =
@@ -96,6 +108,7 @@ module _ {s : State} (g : SoundFacts s) (slot : ℕ) (slot< : slot < 16) where
         woken = waiters-mask g slot slot<;
         tasks = cleared-tasks g slot slot< s′ z′ clear refl (readyWith OBJECT-WAS-DELETED) (λ w. refl) refl;
         queues = changed-queues g slot slot< s′ z′ clear clear refl (λ q. refl);
+        queued = λ b h free used. absurd (used (still-free g slot slot< s′ z′ clear refl refl b h free));
       }
     where
       s′ : State
@@ -116,6 +129,7 @@ module _ {s : State} (g : SoundFacts s) (slot : ℕ) (slot< : slot < 16) where
         woken = mask-none;
         tasks = λ k h. refl;
         queues = changed-queues g slot slot< s′ z′ (withPending 0) (λ q. q) refl (λ q. refl);
+        queued = λ b h free used. absurd (used (still-free g slot slot< s′ z′ (withPending 0) refl refl b h free));
       }
     where
       s′ : State
@@ -135,4 +149,5 @@ module _ {s : State} (g : SoundFacts s) (slot : ℕ) (slot< : slot < 16) where
         woken = mask-none;
         tasks = λ k h. refl;
         queues = λ i h. own-kept (eqb i slot) _ _ _ refl;
+        queued = λ b h free used. absurd (used free);
       }

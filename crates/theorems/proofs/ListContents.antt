@@ -9,20 +9,21 @@ use mathlib.Core.List.{List, [], _∷_, map}
 use lib.Dec.{eqb}
 use lib.ListN.{length, getD, length-map}
 use borrow.Author.Tests.{eqb-true, eqb-false, eq-eqb}
-use Rattle.ranks.specs.Lists.{if_then_else_, mapWithIndex, mask, range}
+use Rattle.ranks.specs.Lists.{if_then_else_, mapWithIndex, findIndex, mask, range}
 use Rattle.ranks.specs.Position.{Position, inQueue}
 use Rattle.ranks.specs.Steps.{byRank}
 use Rattle.records.specs.Changes.{atIndex, withWaiters, moveTask}
-use Rattle.records.specs.Records.{Queue, Buffer, Task, State, queueAt, bufferAt, taskAt, freeBuffer, freshTask}
+use Rattle.records.specs.Records.{Queue, Buffer, Task, State, queueAt, bufferAt, taskAt, freeBuffer, freshTask, messageIn}
 use Rattle.specification.specs.Lookup.{waitersOf}
-use Rattle.theorems.specs.QueueLists.{Contents, messageIn, contents, isIn, maskOf, SameButPosition, SameButCounts}
+use Rattle.theorems.specs.QueueLists.{Contents, contents, member, maskOf, SameButPosition, SameButCounts, Lowest}
+use Rattle.ranks.proofs.Lists.{at-mapped, length-mapped, first-true, first-least}
 use Rattle.ranks.proofs.Tests.{or, or-left, or-right}
 use Rattle.ranks.proofs.Ranks.{Agree}
 use Rattle.ranks.proofs.ByRank.{RankedTable, by-rank-listed, length-by-rank, in-list, same-list}
 use Rattle.specification.proofs.SoundFacts.{Sized, SoundFacts}
 use Rattle.theorems.proofs.FieldsInRange.{buffers-ranked, tasks-ranked}
-use Rattle.theorems.proofs.CountChange
 use Rattle.theorems.proofs.ListSteps.{by-number, map-by-rank}
+use Rattle.theorems.proofs.CountChange
 
 -- ---- Queues that are as they were
 
@@ -81,28 +82,41 @@ no-waiters s i e = rw e
 
 -- ---- Entries of a list
 
-pub in-some : (l : List ℕ) (k d t : ℕ) → k < length l → getD l k d ≡ t → isIn t l ≡ true
-unfolding isIn
+pub in-some : (l : List ℕ) (k d t : ℕ) → k < length l → getD l k d ≡ t → member t l ≡ true
+unfolding member
 in-some [] k d t h e = absurd (not-suc-le-zero h)
-in-some (x ∷ l) zero d t h e = or-left (isIn t l) (eq-eqb t x (sym e))
+in-some (x ∷ l) zero d t h e = or-left (member t l) (eq-eqb t x (sym e))
 in-some (x ∷ l) (suc k) d t h e = or-right (eqb t x) (in-some l k d t (le-of-suc-le-suc h) e)
 
-some-in : (l : List ℕ) (t : ℕ) → isIn t l ≡ true → (k : ℕ) × (k < length l) × (getD l k 0 ≡ t)
-unfolding isIn
+some-in : (l : List ℕ) (t : ℕ) → member t l ≡ true → (k : ℕ) × (k < length l) × (getD l k 0 ≡ t)
+unfolding member
 some-in [] t e = absurd (false≢true e)
-some-in (x ∷ l) t e = go (or (eqb t x) (isIn t l) e) (some-in l t)
+some-in (x ∷ l) t e = go (or (eqb t x) (member t l) e) (some-in l t)
   where
-    go : (eqb t x ≡ true) ⊎ (isIn t l ≡ true) → (isIn t l ≡ true → (k : ℕ) × (k < length l) × (getD l k 0 ≡ t))
+    go : (eqb t x ≡ true) ⊎ (member t l ≡ true) → (member t l ≡ true → (k : ℕ) × (k < length l) × (getD l k 0 ≡ t))
         → (k : ℕ) × (k < length (x ∷ l)) × (getD (x ∷ l) k 0 ≡ t)
     go (inl e) ih = (0, omega arith, sym (eqb-true t x e))
     go (inr e) ih = let (k, h, q) = ih e in (suc k, omega arith, q)
 
+-- the first record that passes is the lowest
+pub first-lowest : {A : Type 0} (test : ℕ → A → Bool) (xs : List A) (a : A) → findIndex test xs < length xs
+    → Lowest (λ i. test i (getD xs i a)) (findIndex test xs)
+first-lowest test xs a h =
+    record {
+      passes = sym (at-mapped test xs _ a false h) ∙ first-true (mapWithIndex test xs) (omega (arith, length-mapped test xs));
+      least = λ i lt. go i lt (test i (getD xs i a)) refl;
+    }
+  where
+    go : (i : ℕ) → i < findIndex test xs → (b : Bool) → test i (getD xs i a) ≡ b → b ≡ false
+    go i lt true e = absurd (let le = first-least (mapWithIndex test xs) i (at-mapped test xs i a false (omega arith) ∙ e) in omega arith)
+    go i lt false e = refl
+
 -- the entries of a queue's list are the records in the queue
 pub in-by-rank : {A : Type 0} {position : A → Position} {a : A} {N slot n : ℕ} {xs : List A} → RankedTable position a N slot n xs → (t : ℕ) → t < N
-    → inQueue slot (position (getD xs t a)) ≡ isIn t (byRank position slot n xs)
-in-by-rank {A} {position} {a} {N} {slot} {n} {xs} table t h = go (inQueue slot (position (getD xs t a))) (isIn t (byRank position slot n xs)) refl refl
+    → inQueue slot (position (getD xs t a)) ≡ member t (byRank position slot n xs)
+in-by-rank {A} {position} {a} {N} {slot} {n} {xs} table t h = go (inQueue slot (position (getD xs t a))) (member t (byRank position slot n xs)) refl refl
   where
-    go : (b c : Bool) → inQueue slot (position (getD xs t a)) ≡ b → isIn t (byRank position slot n xs) ≡ c → b ≡ c
+    go : (b c : Bool) → inQueue slot (position (getD xs t a)) ≡ b → member t (byRank position slot n xs) ≡ c → b ≡ c
     go true true e f = refl
     go false false e f = refl
     go true false e f =
@@ -115,12 +129,12 @@ in-by-rank {A} {position} {a} {N} {slot} {n} {xs} table t h = go (inQueue slot (
 
 -- ---- Masks
 
-pub mask-of : {A : Type 0} (f : ℕ → A → Bool) (xs : List A) (a : A) (l : List ℕ) → length xs ≡ 32 → ((k : ℕ) → k < 32 → f k (getD xs k a) ≡ isIn k l)
+pub mask-of : {A : Type 0} (f : ℕ → A → Bool) (xs : List A) (a : A) (l : List ℕ) → length xs ≡ 32 → ((k : ℕ) → k < 32 → f k (getD xs k a) ≡ member k l)
     → mask (mapWithIndex f xs) ≡ maskOf l
-mask-of f xs a l long same = ap mask (by-number f (λ t. isIn t l) xs a false 32 long same)
+mask-of f xs a l long same = ap mask (by-number f (λ t. member t l) xs a false 32 long same)
 
 pub mask-none : 0 ≡ maskOf []
-unfolding mask range isIn
+unfolding mask range member
 mask-none = refl
 
 -- ---- Records
@@ -167,6 +181,6 @@ module _ {s : State} (g : SoundFacts s) (slot : ℕ) (slot< : slot < 16) where
   count-messages = sym (length-map (byRank (λ (m : Buffer). m .position) slot (queueAt s slot .pending) (s .pool)) _ ∙ length-by-rank (buffers-ranked s g slot slot<))
 
   -- a task is in the queue exactly if it is one of its waiters
-  pub waits-in : (k : ℕ) → k < 32 → inQueue slot (taskAt s k .position) ≡ isIn k (contents s slot .waiters)
+  pub waits-in : (k : ℕ) → k < 32 → inQueue slot (taskAt s k .position) ≡ member k (contents s slot .waiters)
   unfolding contents
   waits-in k h = in-by-rank (tasks-ranked s g slot slot<) k h

@@ -2,52 +2,36 @@
 use Prim.Native.Nat.{ℕ, suc, _≤_, _<_}
 use native.Mathlib.Nat.{le-refl}
 use native.Mathlib.Omega.{arith}
-use mathlib.Core.Path.{_≡_, refl, sym, _∙_}
-use mathlib.Core.Bool.{Bool, true, false}
+use mathlib.Core.Path.{_≡_, refl, sym}
 use mathlib.Core.Logic.{⊎-elim}
-use mathlib.Core.List.{List, [], _∷_, _++_}
-use lib.ListN.{length, getD, drop-of-length-le}
+use mathlib.Core.List.{[], _∷_, _++_}
+use lib.ListN.{length, drop-of-length-le}
 use lib.Seq.{take-all}
 use borrow.Author.Tests.{leb-false}
-use Rattle.ranks.specs.Lists.{mapWithIndex, firstThat}
 use Rattle.records.specs.Layout.{slotOf}
 use Rattle.records.specs.Records.{Queue, State, queueAt, bufferAt, freeQueue}
 use Rattle.specification.specs.Answer.{Outcome}
 use Rattle.specification.specs.Call.{Operation, delete, send, urgent, broadcast, receive, getNumberPending, flush, onQueue, call}
-use Rattle.specification.specs.Create
-use Rattle.specification.specs.Ident
 use Rattle.specification.specs.Step.{operationRefusals, directiveRefusals, operationEffect, effect}
-use Rattle.theorems.specs.QueueLists.{contents, onList, taskAfter, queueAfter, OperationOnLists, Lowest, CreateOnLists, IdentOnLists}
-use Rattle.ranks.proofs.Lists.{at-mapped, length-mapped, first-true, first-least}
+use Rattle.theorems.specs.QueueLists.{contents, onList, taskAfter, queueAfter, OperationOnLists, CreateOnTables, IdentOnTables}
 use Rattle.specification.proofs.Refused.{None}
 use Rattle.specification.proofs.Rules.{Free, queue-rules}
 use Rattle.specification.proofs.SoundFacts.{Sized, SoundFacts}
-use Rattle.theorems.proofs.CountChange
 use Rattle.theorems.proofs.SoundSubmit.{slot-below, submitted}
 use Rattle.theorems.proofs.SoundCreate.{slot-found, create-sound}
 use Rattle.theorems.proofs.SoundCall.{ReadyCaller, Accepted, effect-sound}
-use Rattle.theorems.proofs.ListContents.{kept-messages, kept-waiters, both-lists, count-messages}
+use Rattle.theorems.proofs.ListContents.{kept-messages, kept-waiters, both-lists, first-lowest, count-messages}
 use Rattle.theorems.proofs.ListClear.{broadcast-lists, delete-lists, flush-lists, pending-lists}
 use Rattle.theorems.proofs.ListSubmit.{submit-lists}
 use Rattle.theorems.proofs.ListReceive.{receive-lists}
+use Rattle.specification.specs.Create
+use Rattle.specification.specs.Ident
+use Rattle.theorems.proofs.CountChange
 
 -- what an operation does, by the definitions on lists
 abbrev pub OperationFacts : State → (caller slot : ℕ) → Operation → Outcome State → Type 0
 OperationFacts s caller slot o r =
     OperationOnLists s slot r (onList s caller slot o (contents s slot)) (taskAfter caller o (contents s slot)) (queueAfter o)
-
--- the first record that passes is the lowest
-first-lowest : {A : Type 0} (test : ℕ → A → Bool) (xs : List A) (a : A) → firstThat test xs < length xs
-    → Lowest (λ i. test i (getD xs i a)) (firstThat test xs)
-first-lowest test xs a h =
-    record {
-      passes = sym (at-mapped test xs _ a false h) ∙ first-true (mapWithIndex test xs) (omega (arith, length-mapped test xs));
-      least = λ i lt. go i lt (test i (getD xs i a)) refl;
-    }
-  where
-    go : (i : ℕ) → i < firstThat test xs → (b : Bool) → test i (getD xs i a) ≡ b → b ≡ false
-    go i lt true e = absurd (let le = first-least (mapWithIndex test xs) i (at-mapped test xs i a false (omega arith) ∙ e) in omega arith)
-    go i lt false e = refl
 
 -- a buffer has 120 bytes
 abbrev pub WholeBuffers : State → Type 0
@@ -82,7 +66,7 @@ module _ {s : State} (g : SoundFacts s) where
 
   -- a queue that is created has no message and no waiter, as its free slot had none
   pub create-lists : (share name limit maxSize attributes : ℕ) → None (Create.refusals s share name limit maxSize attributes)
-      → CreateOnLists s share name limit maxSize attributes (Create.effect s (Create.freeSlot s share) name limit maxSize attributes)
+      → CreateOnTables s share name limit maxSize attributes (Create.effect s (Create.freeSlot s share) name limit maxSize attributes)
   unfolding Create.refusals Create.effect Create.freeSlot
   create-lists share name limit maxSize attributes n =
       let lt : Create.freeSlot s share < 16 = leb-false _ _ (n .1 .1 .1 .1 .0) in
@@ -103,7 +87,7 @@ module _ {s : State} (g : SoundFacts s) where
       }
 
   pub ident-lists : (caller name share : ℕ) → None (Ident.refusals s caller name share)
-      → IdentOnLists s caller name share (Ident.effect s (Ident.named s caller name share) .answer)
+      → IdentOnTables s caller name share (Ident.effect s (Ident.named s caller name share) .answer)
   unfolding Ident.refusals Ident.effect Ident.named
   ident-lists caller name share n =
       let lt : Ident.named s caller name share < 16 = leb-false _ _ (n .1 .1 .0) in

@@ -13,24 +13,24 @@ use borrow.Author.Tests.{ltb-true, ltb-false, lt-ltb, le-ltb}
 use Rattle.ranks.specs.Lists.{if_then_else_}
 use Rattle.ranks.specs.Position.{Position, noQueue, positionAt}
 use Rattle.ranks.specs.Steps.{inserted, takenOut, byRank}
-use Rattle.records.specs.Records.{Queue, Buffer, Task, State, hasPriority, isWaiting, queueAt, bufferAt, taskAt, freeBuffer, freshTask}
+use Rattle.records.specs.Records.{Queue, Buffer, Task, State, hasPriority, isWaiting, queueAt, bufferAt, taskAt, freeBuffer, freshTask, messageIn}
 use Rattle.records.specs.Changes.{atIndex, withPending, withWaiters, moveBuffer, withMessage, moveTask, waitingAt}
 use Rattle.specification.specs.Answer.{Outcome}
 use Rattle.specification.specs.Call.{receive}
 use Rattle.specification.specs.Lookup.{firstMessage, hasMessage}
 use Rattle.specification.specs.Receive.{received, waitRank, waiting, effect}
-use Rattle.theorems.specs.QueueLists.{Contents, messageIn, contents, insertByPriority, leaves, waits, takeMessage, onList, taskAfter, OperationOnLists}
+use Rattle.theorems.specs.QueueLists.{Contents, contents, insertByPriority, leaves, callerWaits, takeMessage, onList, taskAfter, OperationOnLists}
 use Rattle.ranks.proofs.Lists.{at-mapped}
-use Rattle.ranks.proofs.Ranks.{in-itself, out-itself}
+use Rattle.ranks.proofs.Ranks.{in-itself, out-itself, out-stays}
 use Rattle.ranks.proofs.ByRank.{Stands, Changed, alike, by-rank-listed, length-by-rank, inserted-list, taken-table, taken-first}
 use Rattle.specification.proofs.Rules.{size-at-most, Ready, buffer-rules}
 use Rattle.specification.proofs.SoundFacts.{Sized, SoundFacts}
 use Rattle.theorems.proofs.FieldsInRange.{buffers-ranked, tasks-ranked}
-use Rattle.theorems.proofs.CountChange
 use Rattle.theorems.proofs.KeptQueues.{at-both, live-of}
 use Rattle.theorems.proofs.SoundReceive.{is-ready, first-holds, none-held, waitRank-bound, ahead-of, behind-of}
 use Rattle.theorems.proofs.ListSteps.{map-by-rank, stepped-at, stepped-other, stepped-changed, taken-agree, inserted-agree}
 use Rattle.theorems.proofs.ListContents.{same-messages, same-waiters, kept-messages, both-lists, no-messages, count-waiters, mask-none, same-task, moved-task, changed-queues}
+use Rattle.theorems.proofs.CountChange
 
 -- a ready task is in no queue
 at-no-queue : {w : Task} → Ready w → w .position ≡ noQueue
@@ -108,6 +108,14 @@ module _ {s : State} (g : SoundFacts s) (caller slot b : ℕ) (caller< : caller 
       omega (arith, length-take (bufferAt s b .messageLength) (bufferAt s b .bytes)))
       (buffer-rules s b _ (g .buffer b (stands .0)))
 
+  still-free : (j : ℕ) → j < 64 → bufferAt s j .position .queue ≡ 0 → bufferAt s′ j .position .queue ≡ 0
+  still-free j h free =
+      ap (λ (p : Position). p .queue)
+      (changed j h
+      ∙ out-stays b slot 0 j _ (λ e. let z : 0 ≡ suc slot = sym free ∙ ap (λ (k : ℕ). bufferAt s k .position .queue) e ∙ stands .1 in omega arith)
+      (λ z. omega arith))
+      ∙ free
+
   pub received-lists : length (bufferAt s b .bytes) ≡ 120
       → OperationOnLists s slot (received s caller slot b) (leaves (contents s′ slot .messages) (contents s slot .waiters) [] (length message))
       (λ k w. if eqb k caller then withMessage message w else w) (λ q. q)
@@ -121,6 +129,7 @@ module _ {s : State} (g : SoundFacts s) (caller slot b : ℕ) (caller< : caller 
         woken = mask-none;
         tasks = λ k h. same-task _ _ (task-after k h);
         queues = changed-queues g slot slot< s′ z′ less (λ q. q) refl (λ q. refl);
+        queued = λ j h free used. absurd (used (still-free j h free));
       }
 
 -- ---- A caller that waits
@@ -148,7 +157,7 @@ module _ {s : State} (g : SoundFacts s) (caller slot rank ticks : ℕ) (caller< 
 
   pub waiting-lists : (ws : List ℕ) → take rank (contents s slot .waiters) ++ caller ∷ drop rank (contents s slot .waiters) ≡ ws
       → contents s slot .messages ≡ []
-      → OperationOnLists s slot (waiting s caller slot rank ticks) (waits ws) (λ k w. if eqb k caller then waitingAt (w .position) ticks w else w) (λ q. q)
+      → OperationOnLists s slot (waiting s caller slot rank ticks) (callerWaits ws) (λ k w. if eqb k caller then waitingAt (w .position) ticks w else w) (λ q. q)
   unfolding waiting
   waiting-lists ws at-rank none =
       record {
@@ -166,6 +175,7 @@ module _ {s : State} (g : SoundFacts s) (caller slot rank ticks : ℕ) (caller< 
             moved-task (waitingAt (positionAt slot rank) ticks) (λ w. waitingAt (w .position) ticks w) _ _ (eqb k caller) _ refl
             (stepped-at (tasks-ranked s g slot slot<) moveTask caller (waitingAt (positionAt slot rank) ticks) (inserted caller slot rank) k h);
         queues = changed-queues g slot slot< w′ z′ more (λ q. q) refl (λ q. refl);
+        queued = λ b h free used. absurd (used free);
       }
     where
       kept : (i : ℕ) → i < 16 → contents w′ i .messages ≡ contents s i .messages

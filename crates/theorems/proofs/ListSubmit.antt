@@ -3,30 +3,32 @@ use Prim.Native.Nat.{ℕ, suc, _≤_, _<_}
 use native.Mathlib.Omega.{arith}
 use mathlib.Core.Path.{_≡_, refl, sym, ap, ap₂, _∙_, subst}
 use mathlib.Core.Bool.{Bool, true, false, or-false}
+use mathlib.Core.Logic.{⊎-elim}
 use mathlib.Core.List.{List, [], _∷_, _++_, map}
 use lib.Dec.{eqb}
-use lib.ListN.{take, drop}
+use lib.ListN.{getD, take, drop}
 use lib.Seq.{take-append-seam}
 use borrow.Author.Tests.{ltb-true, ltb-false}
 use Rattle.ranks.specs.Lists.{if_then_else_}
-use Rattle.ranks.specs.Position.{positionAt}
+use Rattle.ranks.specs.Position.{Position, positionAt}
 use Rattle.ranks.specs.Steps.{inserted, byRank}
 use Rattle.records.specs.Split.{shareOfSlot}
-use Rattle.records.specs.Records.{Queue, Buffer, State, queueAt, bufferAt, taskAt, freeBuffer, freshTask}
+use Rattle.records.specs.Records.{Queue, Buffer, State, queueAt, bufferAt, taskAt, freeBuffer, freshTask, messageIn}
 use Rattle.records.specs.Changes.{withPending, moveBuffer, messageBuffer, withMessage}
 use Rattle.specification.specs.Answer.{Outcome}
 use Rattle.specification.specs.Lookup.{firstWaiter, hasWaiter, leave}
-use Rattle.specification.specs.Submit.{freeBufferOf, delivered, enqueued, effect}
-use Rattle.theorems.specs.QueueLists.{messageIn, contents, leaves, submit, isIn, SameButPosition, OperationOnLists}
-use Rattle.ranks.proofs.Ranks.{in-itself}
+use Rattle.specification.specs.Submit.{isFreeOf, freeBufferOf, delivered, enqueued, effect}
+use Rattle.theorems.specs.QueueLists.{contents, leaves, submit, member, SameButPosition, Lowest, OperationOnLists}
+use Rattle.ranks.proofs.Tests.{same?}
+use Rattle.ranks.proofs.Ranks.{in-itself, in-stays}
 use Rattle.ranks.proofs.ByRank.{Changed, inserted-list}
 use Rattle.specification.proofs.SoundFacts.{Sized, SoundFacts}
 use Rattle.theorems.proofs.FieldsInRange.{buffers-ranked}
-use Rattle.theorems.proofs.CountChange
 use Rattle.theorems.proofs.SoundSubmit.{first-waits, none-waits, free-found, Submitted}
 use Rattle.theorems.proofs.ListSteps.{map-put, map-by-rank, stepped-here, stepped-other, stepped-changed, inserted-agree}
-use Rattle.theorems.proofs.ListContents.{same-messages, kept-waiters, both-lists, no-waiters, mask-of, mask-none, own-kept, changed-queues}
+use Rattle.theorems.proofs.ListContents.{same-messages, kept-waiters, both-lists, first-lowest, no-waiters, mask-of, mask-none, own-kept, changed-queues}
 use Rattle.theorems.proofs.ListLeave.{Leaves, leave-lists}
+use Rattle.theorems.proofs.CountChange
 
 -- ---- A message that is queued
 
@@ -75,10 +77,16 @@ module _ {s : State} (g : SoundFacts s) (b slot rank : ℕ) (message : List ℕ)
       same-messages g i i< s′ z′ (ap (λ (q : Queue). q .pending) (CountChange.other s s′ g z′ slot slot< more refl i i< ne))
       (inserted-agree (buffers-ranked s g i i<) (s′ .pool) b slot rank ne free changed) (held i)
 
+  -- a free buffer that is not free any more is the one that the message is put into
+  is-used : (j : ℕ) → j < 64 → bufferAt s j .position .queue ≡ 0 → (bufferAt s′ j .position .queue ≡ 0 → ⊥) → b ≡ j
+  is-used j h free used =
+      ⊎-elim sym (λ ne. absurd (used (ap (λ (p : Position). p .queue) (changed j h ∙ in-stays b slot rank j _ ne (λ z. omega arith)) ∙ free))) (same? j b)
+
   pub enqueued-lists : (ms : List (List ℕ)) → ms ≡ take rank (contents s slot .messages) ++ message ∷ drop rank (contents s slot .messages)
-      → contents s slot .waiters ≡ [] → OperationOnLists s slot (enqueued s b slot rank message) (leaves ms [] [] 0) (λ k w. w) (λ q. q)
+      → contents s slot .waiters ≡ [] → Lowest (λ j. isFreeOf (shareOfSlot slot) j (bufferAt s j)) b
+      → OperationOnLists s slot (enqueued s b slot rank message) (leaves ms [] [] 0) (λ k w. w) (λ q. q)
   unfolding enqueued
-  enqueued-lists ms at-rank none =
+  enqueued-lists ms at-rank none lowest =
       record {
         queue = both-lists (messages ∙ sym at-rank) (waiters slot slot< ∙ none);
         others = λ i i< ne. both-lists (other i i< ne) (waiters i i<);
@@ -87,6 +95,7 @@ module _ {s : State} (g : SoundFacts s) (b slot rank : ℕ) (message : List ℕ)
         woken = mask-none;
         tasks = λ k h. refl;
         queues = changed-queues g slot slot< s′ z′ more (λ q. q) refl (λ q. refl);
+        queued = λ j h free used. subst (Lowest (λ j. isFreeOf (shareOfSlot slot) j (bufferAt s j))) (is-used j h free used) lowest;
       }
     where
       waiters : (i : ℕ) → i < 16 → contents s′ i .waiters ≡ contents s i .waiters
@@ -94,14 +103,14 @@ module _ {s : State} (g : SoundFacts s) (b slot rank : ℕ) (message : List ℕ)
 
 -- ---- A message that a waiter gets
 
-alone : (k t : ℕ) → eqb k t ≡ isIn k (t ∷ [])
-unfolding isIn
+alone : (k t : ℕ) → eqb k t ≡ member k (t ∷ [])
+unfolding member
 alone k t = sym (or-false (eqb k t))
 
 delivered-lists : {s : State} (g : SoundFacts s) (t slot : ℕ) (message : List ℕ) (slot< : slot < 16) → Leaves s t slot 0 (withMessage message) (delivered s t slot message .after)
     → OperationOnLists s slot (delivered s t slot message)
     (leaves (contents s slot .messages) (contents (delivered s t slot message .after) slot .waiters) (t ∷ []) 0)
-    (λ k w. if isIn k (t ∷ []) then withMessage message w else w) (λ q. q)
+    (λ k w. if member k (t ∷ []) then withMessage message w else w) (λ q. q)
 unfolding delivered
 delivered-lists {s} g t slot message slot< l =
     record {
@@ -115,6 +124,7 @@ delivered-lists {s} g t slot message slot< l =
           subst (λ (b : Bool). SameButPosition (if b then withMessage message (taskAt s k) else taskAt s k) (taskAt (leave s t slot 0 (withMessage message)) k))
           (alone k t) (l .tasks k h);
       queues = λ i i<. own-kept (eqb i slot) _ _ _ (l .queues i i<);
+      queued = λ b h free used. absurd (used (ap (λ (ms : List Buffer). getD ms b freeBuffer .position .queue) (l .pool) ∙ free));
     }
 
 -- ---- Send and urgent
@@ -126,10 +136,10 @@ module _ {s : State} (g : SoundFacts s) (slot rank : ℕ) (message : List ℕ) (
   abbrev Submits : (ws : List ℕ) → Outcome State → Type 0
   Submits ws r =
       OperationOnLists s slot r (submit enqueue (record { messages = contents s slot .messages; waiters = ws }))
-      (λ k w. if isIn k (take 1 ws) then withMessage message w else w) (λ q. q)
+      (λ k w. if member k (take 1 ws) then withMessage message w else w) (λ q. q)
 
   pub submit-lists : Sized (effect s slot rank message .after) → Submits (contents s slot .waiters) (effect s slot rank message)
-  unfolding effect delivered submit isIn
+  unfolding effect delivered submit member freeBufferOf
   submit-lists = go (hasWaiter s slot) refl
     where
       go : (b : Bool) → hasWaiter s slot ≡ b
@@ -143,6 +153,7 @@ module _ {s : State} (g : SoundFacts s) (slot rank : ℕ) (message : List ℕ) (
           subst (λ (ws : List ℕ). Submits ws (delivered s (firstWaiter s slot) slot message)) (sym (l .first refl)) (delivered-lists g _ slot message slot< l)
       go false e z′ =
           let (free, own) = free-found s (g .sized) (shareOfSlot slot) (ok .free e) in
+          let lowest = first-lowest (isFreeOf (shareOfSlot slot)) (s .pool) freeBuffer (omega (arith, ok .free e, g .sized .pool)) in
           let none = no-waiters s slot (none-waits s g slot slot< (ltb-false _ _ e)) in
           subst (λ (ws : List ℕ). Submits ws (enqueued s (freeBufferOf s (shareOfSlot slot)) slot rank message)) (sym none)
-          (enqueued-lists g _ slot rank message (ok .free e) slot< free le z′ _ at-rank none)
+          (enqueued-lists g _ slot rank message (ok .free e) slot< free le z′ _ at-rank none lowest)

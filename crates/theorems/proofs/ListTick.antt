@@ -9,16 +9,16 @@ use mathlib.Core.List.{List, [], _∷_, map}
 use lib.Dec.{eqb}
 use lib.ListN.{length}
 use borrow.Author.Tests.{eqb-true, ne-eqb}
-use Rattle.ranks.specs.Lists.{if_then_else_, mapWithIndex, count, keep, range}
+use Rattle.ranks.specs.Lists.{if_then_else_, mapWithIndex, count, filter, range}
 use Rattle.records.specs.Records.{Queue, Task, State, queueAt, taskAt, freshTask}
 use Rattle.records.specs.Changes.{atIndex, withWaiters, moveTask, withTicks, readyWith}
 use Rattle.records.specs.Status.{TIMEOUT}
 use Rattle.specification.specs.Lookup.{leave}
 use Rattle.specification.specs.Tick.{expires, isTimed, tickTask, tickTasks, effect}
-use Rattle.theorems.specs.QueueLists.{contents, isIn, taskAfterTick, SameButPosition, expired, TickOnLists}
+use Rattle.theorems.specs.QueueLists.{contents, member, taskAfterTick, SameButPosition, expired, TickOnLists}
 use Rattle.ranks.proofs.Lists.{at-mapped, length-range, at-range}
 use Rattle.ranks.proofs.Tests.{same?}
-use Rattle.ranks.proofs.ByRank.{keep-cong, keep-all, keep-keep, alike, by-rank-listed, length-by-rank}
+use Rattle.ranks.proofs.ByRank.{filter-cong, filter-all, filter-filter, alike, by-rank-listed, length-by-rank}
 use Rattle.specification.proofs.SoundFacts.{Sized, SoundFacts}
 use Rattle.theorems.proofs.FieldsInRange.{tasks-ranked}
 use Rattle.theorems.proofs.KeptQueues.{at-here, at-other, at-both}
@@ -48,7 +48,7 @@ tick-moves w w′ m = subst (λ (v : Task). SameButPosition (taskAfterTick w) (t
 record Ticked (s : State) (had : ℕ → Bool) (s′ : State) : Type 0 where
   pool : s′ .pool ≡ s .pool
   queues : (i : ℕ) → i < 16 → queueAt s′ i ≡ withWaiters (queueAt s′ i .waiters) (queueAt s i)
-  waiters : (i : ℕ) → i < 16 → contents s′ i .waiters ≡ keep (λ k. not (had k && expires (taskAt s k))) (contents s i .waiters)
+  waiters : (i : ℕ) → i < 16 → contents s′ i .waiters ≡ filter (λ k. not (had k && expires (taskAt s k))) (contents s i .waiters)
   tasks : (k : ℕ) → k < 32 → SameButPosition (if had k then taskAfterTick (taskAt s k) else taskAt s k) (taskAt s′ k)
 
 -- what a task's record is, by what the test says of it
@@ -57,12 +57,12 @@ task-of : {s s′ : State} {had : ℕ → Bool} → Ticked s had s′ → (k : �
 task-of {s} {s′} a k h p e = subst (λ (p : Bool). SameButPosition (if p then taskAfterTick (taskAt s k) else taskAt s k) (taskAt s′ k)) e (a .tasks k h)
 
 -- two tests that say the same of every task keep the same waiters
-keep-same : {s : State} → SoundFacts s → (i : ℕ) → i < 16 → (f h : ℕ → Bool) → ((k : ℕ) → k < 32 → f k ≡ h k)
-    → keep f (contents s i .waiters) ≡ keep h (contents s i .waiters)
+filter-same : {s : State} → SoundFacts s → (i : ℕ) → i < 16 → (f h : ℕ → Bool) → ((k : ℕ) → k < 32 → f k ≡ h k)
+    → filter f (contents s i .waiters) ≡ filter h (contents s i .waiters)
 unfolding contents
-keep-same {s} g i i< f h same =
+filter-same {s} g i i< f h same =
     let table = tasks-ranked s g i i< in
-    keep-cong f h _ 0 (λ k lt. same _ (by-rank-listed table .entry k 0 (omega (arith, length-by-rank table)) .0))
+    filter-cong f h _ 0 (λ k lt. same _ (by-rank-listed table .entry k 0 (omega (arith, length-by-rank table)) .0))
 
 -- one after the other, none of them twice
 in-turn : {s s₁ s₂ : State} {had more : ℕ → Bool} → SoundFacts s → ((k : ℕ) → k < 32 → had k ≡ true → more k ≡ false) → Ticked s had s₁ → Ticked s₁ more s₂
@@ -73,9 +73,9 @@ in-turn {s} {s₁} {s₂} {had} {more} g once a b =
       queues = λ i i<. b .queues i i< ∙ ap (withWaiters (queueAt s₂ i .waiters)) (a .queues i i<);
       waiters =
           λ i i<.
-          b .waiters i i< ∙ ap (keep (λ k. not (more k && expires (taskAt s₁ k)))) (a .waiters i i<)
-          ∙ keep-keep _ _ (contents s i .waiters)
-          ∙ keep-same g i i< _ _ (λ k h. left k h (had k) (more k) refl refl);
+          b .waiters i i< ∙ ap (filter (λ k. not (more k && expires (taskAt s₁ k)))) (a .waiters i i<)
+          ∙ filter-filter _ _ (contents s i .waiters)
+          ∙ filter-same g i i< _ _ (λ k h. left k h (had k) (more k) refl refl);
       tasks = λ k h. both k h (had k) (more k) refl refl;
     }
   where
@@ -109,13 +109,13 @@ module _ {s : State} (g : SoundFacts s) (t : ℕ) (t< : t < 32) where
 
   had-tick : (s′ : State) (f : Task → Task) (b : Bool) → expires (taskAt s t) ≡ b → f (taskAt s t) ≡ taskAfterTick (taskAt s t)
       → s′ .pool ≡ s .pool → ((i : ℕ) → i < 16 → queueAt s′ i ≡ withWaiters (queueAt s′ i .waiters) (queueAt s i))
-      → ((i : ℕ) → i < 16 → contents s′ i .waiters ≡ keep (λ k. not (eqb k t && b)) (contents s i .waiters))
+      → ((i : ℕ) → i < 16 → contents s′ i .waiters ≡ filter (λ k. not (eqb k t && b)) (contents s i .waiters))
       → ((k : ℕ) → k < 32 → SameButPosition (atIndex t f k (taskAt s k)) (taskAt s′ k)) → Ticked s (λ k. eqb k t) s′
   had-tick s′ f b e mine pool queues waiters tasks =
       record {
         pool = pool;
         queues = queues;
-        waiters = λ i i<. waiters i i< ∙ keep-same g i i< _ _ (λ k h. ap not (same-test b e k));
+        waiters = λ i i<. waiters i i< ∙ filter-same g i i< _ _ (λ k h. ap not (same-test b e k));
         tasks = λ k h. subst (λ (w : Task). SameButPosition w (taskAt s′ k)) (as-ticked f mine k) (tasks k h);
       }
 
@@ -126,7 +126,7 @@ module _ {s : State} (g : SoundFacts s) (t : ℕ) (t< : t < 32) where
   tick-leaves slot slot< q e z′ =
       let l = leave-lists g t slot (taskAt s t .position .rank) (readyWith TIMEOUT) slot< (t<, q, refl) (λ w. refl) z′ in
       had-tick _ (readyWith TIMEOUT) true e (rw e) (l .pool) (l .queues)
-      (λ i i<. l .waiters i i< ∙ keep-same g i i< _ _ (λ k h. ap not (sym (and-true (eqb k t))))) (l .tasks)
+      (λ i i<. l .waiters i i< ∙ filter-same g i i< _ _ (λ k h. ap not (sym (and-true (eqb k t))))) (l .tasks)
 
   -- no task leaves
   tick-stays : (s′ : State) (f : Task → Task) → expires (taskAt s t) ≡ false → f (taskAt s t) ≡ taskAfterTick (taskAt s t)
@@ -134,7 +134,7 @@ module _ {s : State} (g : SoundFacts s) (t : ℕ) (t< : t < 32) where
       → ((k : ℕ) → k < 32 → taskAt s′ k ≡ atIndex t f k (taskAt s k)) → Ticked s (λ k. eqb k t) s′
   tick-stays s′ f e mine pool queues waiters tasks =
       had-tick s′ f false e mine pool (λ i i<. rw (queues i i<) refl)
-      (λ i i<. waiters i i< ∙ sym (keep-all _ _ 0 (λ k h. ap not (and-false (eqb _ t))))) (λ k h. same-task _ _ (tasks k h))
+      (λ i i<. waiters i i< ∙ sym (filter-all _ _ 0 (λ k h. ap not (and-false (eqb _ t))))) (λ k h. same-task _ _ (tasks k h))
 
   abbrev leaving : ℕ → State
   leaving queue = leave s t (pred queue) (taskAt s t .position .rank) (readyWith TIMEOUT)
@@ -174,48 +174,48 @@ module _ {s : State} (g : SoundFacts s) (t : ℕ) (t< : t < 32) where
 -- ---- All tasks in turn
 
 -- which tasks are in a range
-before-range : (k i n : ℕ) → k < i → isIn k (range i n) ≡ false
-unfolding isIn range
+before-range : (k i n : ℕ) → k < i → member k (range i n) ≡ false
+unfolding member range
 before-range k i zero h = refl
 before-range k i (suc n) h = rw (ne-eqb k i (λ z. omega arith)) (before-range k (suc i) n (omega arith))
 
-in-range : (k : ℕ) → k < 32 → isIn k (range 0 32) ≡ true
+in-range : (k : ℕ) → k < 32 → member k (range 0 32) ≡ true
 in-range k h = in-some (range 0 32) k 0 k (omega (arith, length-range 0 32)) (at-range 0 32 k 0 h ∙ zero-add k)
 
-tick-range : (s : State) → SoundFacts s → (i n : ℕ) → i + n ≤ 32 → Ticked s (λ k. isIn k (range i n)) (tickTasks s (range i n))
-unfolding tickTasks range isIn
+tick-range : (s : State) → SoundFacts s → (i n : ℕ) → i + n ≤ 32 → Ticked s (λ k. member k (range i n)) (tickTasks s (range i n))
+unfolding tickTasks range member
 tick-range s g i zero h =
-    record { pool = refl; queues = λ i i<. refl; waiters = λ i i<. sym (keep-all _ _ 0 (λ k h. refl)); tasks = λ k h. refl }
+    record { pool = refl; queues = λ i i<. refl; waiters = λ i i<. sym (filter-all _ _ 0 (λ k h. refl)); tasks = λ k h. refl }
 tick-range s g i (suc n) h =
     let g′ : SoundFacts (tickTask s i) = tickTask-sound s g i (omega arith) in
-    in-turn g (λ k lt e. subst (λ (j : ℕ). isIn j (range (suc i) n) ≡ false) (sym (eqb-true k i e)) (before-range i (suc i) n (omega arith)))
+    in-turn g (λ k lt e. subst (λ (j : ℕ). member j (range (suc i) n) ≡ false) (sym (eqb-true k i e)) (before-range i (suc i) n (omega arith)))
     (tick-one g i (omega arith) (g′ .sized)) (tick-range (tickTask s i) g′ (suc i) n (omega arith))
 
 -- ---- The tasks that expire
 
 module _ (f : ℕ → Bool) where
-  count-keep : (l : List ℕ) → count (map f l) ≡ length (keep f l)
-  unfolding count keep
-  count-keep [] = refl
-  count-keep (x ∷ l) = go (f x) (count-keep l)
+  count-filter : (l : List ℕ) → count (map f l) ≡ length (filter f l)
+  unfolding count filter
+  count-filter [] = refl
+  count-filter (x ∷ l) = go (f x) (count-filter l)
     where
-      go : (b : Bool) → count (map f l) ≡ length (keep f l)
-          → (if b then suc (count (map f l)) else count (map f l)) ≡ length (if b then x ∷ keep f l else keep f l)
+      go : (b : Bool) → count (map f l) ≡ length (filter f l)
+          → (if b then suc (count (map f l)) else count (map f l)) ≡ length (if b then x ∷ filter f l else filter f l)
       go true ih = ap suc ih
       go false ih = ih
 
-  in-keep : (l : List ℕ) (k : ℕ) → isIn k (keep f l) ≡ isIn k l && f k
-  unfolding keep isIn
-  in-keep [] k = refl
-  in-keep (x ∷ l) k = go (f x) (eqb k x) refl refl (in-keep l k)
+  in-filter : (l : List ℕ) (k : ℕ) → member k (filter f l) ≡ member k l && f k
+  unfolding filter member
+  in-filter [] k = refl
+  in-filter (x ∷ l) k = go (f x) (eqb k x) refl refl (in-filter l k)
     where
-      go : (b c : Bool) → f x ≡ b → eqb k x ≡ c → isIn k (keep f l) ≡ isIn k l && f k
-          → isIn k (if b then x ∷ keep f l else keep f l) ≡ (c || isIn k l) && f k
-      go true true e q ih = ap (λ (b : Bool). b || isIn k (keep f l)) q ∙ sym (ap f (eqb-true k x q) ∙ e)
-      go true false e q ih = ap (λ (b : Bool). b || isIn k (keep f l)) q ∙ ih
+      go : (b c : Bool) → f x ≡ b → eqb k x ≡ c → member k (filter f l) ≡ member k l && f k
+          → member k (if b then x ∷ filter f l else filter f l) ≡ (c || member k l) && f k
+      go true true e q ih = ap (λ (b : Bool). b || member k (filter f l)) q ∙ sym (ap f (eqb-true k x q) ∙ e)
+      go true false e q ih = ap (λ (b : Bool). b || member k (filter f l)) q ∙ ih
       go false true e q ih =
           let fails : f k ≡ false = ap f (eqb-true k x q) ∙ e in
-          ih ∙ ap (λ (b : Bool). isIn k l && b) fails ∙ and-false (isIn k l) ∙ sym fails
+          ih ∙ ap (λ (b : Bool). member k l && b) fails ∙ and-false (member k l) ∙ sym fails
       go false false e q ih = ih
 
 -- ---- The tick
@@ -227,16 +227,16 @@ tick-lists s g =
       lists =
           λ i i<.
           both-lists (same-pool s _ i (all .pool) (ap (λ (q : Queue). q .pending) (all .queues i i<)))
-          (all .waiters i i< ∙ keep-same g i i< _ _ (λ k h. ap (λ (b : Bool). not (b && expires (taskAt s k))) (in-range k h)));
+          (all .waiters i i< ∙ filter-same g i i< _ _ (λ k h. ap (λ (b : Bool). not (b && expires (taskAt s k))) (in-range k h)));
       status = refl;
-      value = ap count (by-number _ (λ k. expires (taskAt s k)) (s .tasks) (freshTask 1) false 32 (g .sized .tasks) (λ k h. refl)) ∙ count-keep _ (range 0 32);
+      value = ap count (by-number _ (λ k. expires (taskAt s k)) (s .tasks) (freshTask 1) false 32 (g .sized .tasks) (λ k h. refl)) ∙ count-filter _ (range 0 32);
       woken =
           mask-of _ (s .tasks) (freshTask 1) (expired s) (g .sized .tasks)
-          (λ k h. sym (in-keep (λ k. expires (taskAt s k)) (range 0 32) k ∙ ap (λ (b : Bool). b && expires (taskAt s k)) (in-range k h)));
+          (λ k h. sym (in-filter (λ k. expires (taskAt s k)) (range 0 32) k ∙ ap (λ (b : Bool). b && expires (taskAt s k)) (in-range k h)));
       tasks = λ k h. rw (in-range k h) at (all .tasks k h);
       queues = all .queues;
       pool = all .pool;
     }
   where
-    all : Ticked s (λ k. isIn k (range 0 32)) (tickTasks s (range 0 32))
+    all : Ticked s (λ k. member k (range 0 32)) (tickTasks s (range 0 32))
     all = tick-range s g 0 32 (omega arith)

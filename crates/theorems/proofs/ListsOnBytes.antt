@@ -12,9 +12,8 @@ use Rattle.records.specs.Bytes.{Tables, decode, encode}
 use Rattle.specification.specs.Answer.{Outcome}
 use Rattle.specification.specs.Call.{Operation, Call, create, ident, onQueue, call, tick, argumentsInRange}
 use Rattle.specification.specs.Step.{commonRefusals, ownRefusals, directiveRefusals, effect, step}
-use Rattle.specification.specs.Ident
 use Rattle.theorems.specs.SoundTables.{SoundTables, NotRefused}
-use Rattle.theorems.specs.QueueLists.{CreateOnLists, IdentOnLists, TickOnLists, outcomeOf, QueuesAsLists}
+use Rattle.theorems.specs.QueueLists.{CreateOnTables, IdentOnTables, TickOnLists, outcomeOf, QueuesAsLists}
 use Rattle.specification.proofs.OnRecords.{callOnRecords}
 use Rattle.specification.proofs.Refused.{refused-with, refused-or, refuses-none}
 use Rattle.specification.proofs.SoundFacts.{SoundFacts, is-sound}
@@ -25,6 +24,7 @@ use Rattle.theorems.proofs.ListQueues.{OperationFacts, operation-lists,
 use Rattle.theorems.proofs.ListTests.{tests-lists}
 use Rattle.theorems.proofs.ListTick.{tick-lists}
 use Rattle.records.proofs.EncodeDecode.{encode-decode}
+use Rattle.specification.specs.Ident
 
 -- a call that is not refused has its effect
 not-refused : (s : State) (c : Call) → NotRefused (callOnRecords s c .answer) → Accepted s c × (callOnRecords s c ≡ effect s c)
@@ -56,19 +56,19 @@ operated t caller id o st args r =
 created : (t : Tables) (caller name limit maxSize attributes : ℕ) → SoundTables t
     → argumentsInRange (call caller (create name limit maxSize attributes)) ≡ true
     → NotRefused (step t (call caller (create name limit maxSize attributes)) .answer)
-    → CreateOnLists (decode t) (shareOfTask caller) name limit maxSize attributes (outcomeOf t (call caller (create name limit maxSize attributes)))
+    → CreateOnTables (decode t) (shareOfTask caller) name limit maxSize attributes (outcomeOf t (call caller (create name limit maxSize attributes)))
 unfolding effect Accepted directiveRefusals
 created t caller name limit maxSize attributes st args r =
     let (a, e) = accepts t st (call caller (create name limit maxSize attributes)) r in
-    on-records t st (call caller (create name limit maxSize attributes)) (CreateOnLists (decode t) (shareOfTask caller) name limit maxSize attributes) args e
+    on-records t st (call caller (create name limit maxSize attributes)) (CreateOnTables (decode t) (shareOfTask caller) name limit maxSize attributes) args e
     (create-lists (facts t st) (shareOfTask caller) name limit maxSize attributes (a .1))
 
 found : (t : Tables) (caller name share : ℕ) → SoundTables t → NotRefused (step t (call caller (ident name share)) .answer)
-    → IdentOnLists (decode t) caller name share (step t (call caller (ident name share)) .answer)
+    → IdentOnTables (decode t) caller name share (step t (call caller (ident name share)) .answer)
 unfolding effect Accepted directiveRefusals
 found t caller name share st r =
     let (a, e) = accepts t st (call caller (ident name share)) r in
-    subst (IdentOnLists (decode t) caller name share)
+    subst (IdentOnTables (decode t) caller name share)
     (sym (answer-is t st (call caller (ident name share)) ∙ ap (λ (o : Outcome State). o .answer) e))
     (ident-lists (facts t st) caller name share (a .1))
 

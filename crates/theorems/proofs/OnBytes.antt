@@ -11,7 +11,7 @@ use Rattle.ranks.specs.Lists.{if_then_else_, all}
 use Rattle.ranks.specs.Table.{slice, records}
 use Rattle.records.specs.Records.{Queue, Buffer, Task, State, queueAt, bufferAt, taskAt, freeQueue, freeBuffer, freshTask}
 use Rattle.records.specs.Bytes.{Tables, decodeQueue, encodeQueue, decodeBuffer, encodeBuffer, decodeTask, encodeTask, decode, encode, rightLengths}
-use Rattle.records.specs.InRange.{AllBytes, ByteTables, Bytes, QueueInRange, BufferInRange, TaskInRange, FieldsInRange}
+use Rattle.records.specs.InRange.{AllBytes, ByteTables, ByteList, QueueInRange, BufferInRange, TaskInRange, FieldsInRange}
 use Rattle.specification.specs.Answer.{Answer, Outcome, Refusal, refuseIfAny, refuse}
 use Rattle.specification.specs.Call.{Call, argumentsInRange}
 use Rattle.specification.specs.Sound.{sound}

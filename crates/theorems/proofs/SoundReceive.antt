@@ -1,4 +1,4 @@
--- Receive leaves sound tables. Assumes nothing.
+-- A message received, and where a caller waits, leave sound tables. Assumes nothing.
 use Prim.Native.Nat.{ℕ, zero, suc, pred, _+_, _-_, _%_, _≤_, _<_, min}
 use native.Mathlib.Omega.{arith}
 use mathlib.Core.Path.{_≡_, refl, sym, ap, ap₂, _∙_, subst}

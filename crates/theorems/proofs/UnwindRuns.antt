@@ -6,7 +6,7 @@ use mathlib.Core.Bool.{Bool, true, false, _||_}
 use mathlib.Core.List.{List, [], _∷_, map}
 use lib.Dec.{eqb}
 use borrow.Author.Tests.{eq-eqb, ne-eqb}
-use Rattle.ranks.specs.Lists.{if_then_else_, mapFromIndex, mapWithIndex, all, every, bit, range}
+use Rattle.ranks.specs.Lists.{if_then_else_, all, bit, allZero, range}
 use Rattle.records.specs.Split.{shareOfTask}
 use Rattle.records.specs.Records.{State}
 use Rattle.specification.specs.Answer.{Answer}
@@ -38,14 +38,14 @@ same-bits x m m′ h =
     if-at (λ b. b ≡ (if eqb (shareOfTask t) x then bit t m′ else 0)) (shareOfTask t) x (bit t m) 0
     (λ o. rw (eq-eqb (shareOfTask t) x o) (h t (omega arith) o)) (λ n. rw (ne-eqb (shareOfTask t) x n)))
 
-all-zero : every (λ t b. eqb b 0) (map (λ t. 0) (range 0 32)) ≡ true
-unfolding range mapWithIndex mapFromIndex all
+all-zero : allZero (map (λ t. 0) (range 0 32)) ≡ true
+unfolding range allZero
 all-zero = refl
 
-no-bits : (x m : ℕ) → ((t : ℕ) → t < 32 → shareOfTask t ≡ x → bit t m ≡ 0) → every (λ t b. eqb b 0) (ownBits x m) ≡ true
+no-bits : (x m : ℕ) → ((t : ℕ) → t < 32 → shareOfTask t ≡ x → bit t m ≡ 0) → allZero (ownBits x m) ≡ true
 unfolding ownBits
 no-bits x m h =
-    ap (λ (l : List ℕ). every (λ t b. eqb b 0) l)
+    ap allZero
     (map-range _ (λ t. 0) 0 32 (λ t lt. if-at (λ b. b ≡ 0) (shareOfTask t) x (bit t m) 0 (h t (omega arith)) (λ _. refl)))
     ∙ all-zero
 

@@ -6,7 +6,7 @@ use Rattle.specification.specs.Answer.{refuse}
 use Rattle.specification.specs.Call.{Call}
 use Rattle.specification.specs.Run.{run}
 use Rattle.specification.specs.Step.{step}
-use Rattle.specification.specs.Cases.{Observation, observed, expected, cases, fieldBytes}
+use Rattle.specification.specs.Cases.{Seen, observed, expected, cases, fieldBytes}
 use Rattle.specification.specs.Images.{Image, stateOf, soundImages, unsoundImages, ImageCase, expectedOf, imageCases}
 use Rattle.theorems.specs.SoundTables.{SoundTables}
 
@@ -19,7 +19,7 @@ abbrev pub imageTables : Image → Tables
 imageTables image = encode (stateOf image)
 
 -- what is seen of the calls on an image
-unfoldable pub observedOnImage : ImageCase → Observation
+unfoldable pub observedOnImage : ImageCase → Seen
 observedOnImage k =
     let r = run (imageTables (k .image)) (map (λ e. e .call) (k .events)) in
     record { events = r .events; bytes = map (fieldBytes (r .tables)) (k .fields) }

@@ -9,14 +9,15 @@ use Rattle.records.specs.Layout.{slotCount, bufferCount, taskCount}
 use Rattle.records.specs.Records.{State, queueAt, bufferAt, taskAt}
 use Rattle.records.specs.Bytes.{Tables, decode, encode, rightLengths}
 use Rattle.records.specs.InRange.{ByteTables, FieldsInRange}
-use Rattle.records.specs.Status.{CORRUPT, BAD-CALLER, BAD-SHAPE}
-use Rattle.specification.specs.Answer.{Answer, Outcome, Refusal, refuse}
+use Rattle.records.specs.Status.{TIMEOUT, OBJECT-WAS-DELETED, CORRUPT, BAD-CALLER, BAD-SHAPE}
+use Rattle.specification.specs.Answer.{Answer, Refusal, refuse}
 use Rattle.specification.specs.Call.{Directive, Call, broadcast, create, ident, onQueue, call, tick, argumentsInRange}
 use Rattle.specification.specs.Sound.{sound}
+use Rattle.specification.specs.Lookup.{waitersOf}
 use Rattle.specification.specs.Step.{badCaller, refusals, step}
 use Rattle.specification.specs.Run.{Event, run, freshTables, goodPriorities}
 use Rattle.theorems.specs.SoundTables.{SoundTables, NotRefused}
-use Rattle.theorems.specs.QueueLists.{QueuesAsLists, isIn}
+use Rattle.theorems.specs.QueueLists.{QueuesAsLists, member}
 
 -- ---- The layout: bytes and records correspond, and fresh tables are sound
 
@@ -27,7 +28,7 @@ pub record Layout : Type 0 where
   pub encoded : (s : State) → FieldsInRange s → ByteTables (encode s)
   pub fresh : (priorities : List ℕ) → goodPriorities priorities ≡ true → SoundTables (freshTables priorities)
 
--- ---- Demand 1: for any tables and any call, "each refusal comes exactly where document 01 says and changes nothing"
+-- ---- Demand 1: for any tables and any call, each refusal comes exactly where document 01 says and changes nothing
 
 -- The status is that of the first reason in the list that holds.
 pub data FirstThatHolds (status : ℕ) : List Refusal → Type 0 where
@@ -37,6 +38,8 @@ pub data FirstThatHolds (status : ℕ) : List Refusal → Type 0 where
 pub record Demand1 : Type 0 where
   -- status n exactly if its test holds and no earlier one does
   pub exactly : (t : Tables) (c : Call) (n : ℕ) → (n ≡ 0 → ⊥) → (n ≡ 14 → ⊥) → (step t c .answer .status ≡ n) ↔ FirstThatHolds n (refusals t c)
+  -- 0 or 14 exactly if no test holds
+  pub accepted : (t : Tables) (c : Call) → NotRefused (step t c .answer) ↔ (all (map (λ (r : Refusal). not (r .holds)) (refusals t c)) ≡ true)
   -- "All but 0 and 14 are refusals and change nothing": the very tables, value 0, mask 0
   pub refused : (t : Tables) (c : Call) → (step t c .answer .status ≡ 0 → ⊥) → (step t c .answer .status ≡ 14 → ⊥)
       → step t c ≡ refuse t (step t c .answer .status)
@@ -48,6 +51,9 @@ pub record Demand1 : Type 0 where
       ↔ ((rightLengths t ≡ true) × (sound (decode t) ≡ true) × (badCaller (decode t) caller ≡ true))
   -- "A tick has no caller."
   pub tick-has-no-caller : (t : Tables) → step t tick .answer .status ≡ BAD-CALLER → ⊥
+  -- TIMEOUT and OBJECT_WAS_DELETED: "only written to a task"
+  pub only-to-tasks : (t : Tables) (c : Call)
+      → (step t c .answer .status ≡ TIMEOUT → ⊥) × (step t c .answer .status ≡ OBJECT-WAS-DELETED → ⊥)
 
 -- ---- Demand 2: from any sound tables
 
@@ -56,7 +62,7 @@ abbrev pub messageCount : State → (slot : ℕ) → ℕ
 messageCount s slot = count (mapWithIndex (λ b m. inQueue slot (m .position)) (s .pool))
 
 abbrev pub waiterCount : State → (slot : ℕ) → ℕ
-waiterCount s slot = count (mapWithIndex (λ t w. inQueue slot (w .position)) (s .tasks))
+waiterCount s slot = count (waitersOf s slot)
 
 pub record AnswerInRange (a : Answer) : Type 0 where
   pub status : a .status ≤ 16
@@ -76,10 +82,10 @@ issued (e ∷ es) = if isCreate (e .call) && eqb (e .answer .status) 0 then e .a
 
 unfoldable pub distinct : List ℕ → Bool
 distinct [] = true
-distinct (n ∷ ns) = not (isIn n ns) && distinct ns
+distinct (n ∷ ns) = not (member n ns) && distinct ns
 
 pub record Demand2 : Type 0 where
-  -- "Sound stays sound", and so do lengths and bytes
+  -- sound stays sound, and so do lengths and bytes
   pub sound-stays : (t : Tables) (c : Call) → SoundTables t → argumentsInRange c ≡ true → SoundTables (step t c .after)
   pub answers : (t : Tables) (c : Call) → SoundTables t → AnswerInRange (step t c .answer)
   -- no queue holds messages and waiters together: of the counts, and of the records

@@ -1,6 +1,7 @@
--- Document 01, "Runs": demand 3. What a share observes of a run depends on its own calls and the ticks alone.
-use Rattle.ranks.specs.Prelude.{ℕ, _*_, _<_, _≡_, Bool, true, false, _&&_, _||_, not, List, [], _∷_, map, length, getD, eqb, ltb}
-use Rattle.ranks.specs.Lists.{if_then_else_, within, all, every, bit, range}
+-- Document 01, "Runs": demand 3. What a confined share observes of a run depends on its own calls, its tasks' priorities and
+-- the ticks alone.
+use Rattle.ranks.specs.Prelude.{ℕ, _*_, _<_, _≡_, Bool, true, false, _&&_, _||_, not, List, [], _∷_, map, getD, eqb, ltb}
+use Rattle.ranks.specs.Lists.{if_then_else_, within, all, allZero, bit, range}
 use Rattle.ranks.specs.Table.{slice}
 use Rattle.records.specs.Split.{shareOfSlot, shareOfBuffer, shareOfTask}
 use Rattle.records.specs.Layout.{slotCount, queueWidth, bufferCount, bufferWidth, taskCount, taskWidth, slotOf}
@@ -20,7 +21,7 @@ unfoldable pub isTick : Call → Bool
 isTick (call caller directive) = false
 isTick tick = true
 
--- "what is left of the [list] once every call that isn't X's is struck out"
+-- what is left of a list "once every call that isn't X's is struck out"
 unfoldable pub purge : (x : ℕ) → List Call → List Call
 purge x [] = []
 purge x (c ∷ cs) = if isCallOf x c || isTick c then c ∷ purge x cs else purge x cs
@@ -47,7 +48,7 @@ pub data Observation : Type 0 where
   ofCall : (answer : Answer) → Observation
   ofTick : (status : ℕ) (bits : List ℕ) → Observation
 
--- the observations of a run, in order: "X's first call, its second and so on", and the ticks between them
+-- the observations of a run, in order: "X's first call, of its second and so on", and the ticks between them
 unfoldable pub observations : (x : ℕ) → List Event → List Observation
 observations x [] = []
 observations x (e ∷ es) =
@@ -59,13 +60,17 @@ observations x (e ∷ es) =
 
 -- "the mask of a call that isn't X's has no bit of a task of X"
 unfoldable pub wakesNoTaskOf : (x : ℕ) → Event → Bool
-wakesNoTaskOf x e = isCallOf x (e .call) || isTick (e .call) || every (λ t b. eqb b 0) (ownBits x (e .answer .woken))
+wakesNoTaskOf x e = isCallOf x (e .call) || isTick (e .call) || allZero (ownBits x (e .answer .woken))
+
+-- the bytes of record `i` of a table
+abbrev pub recordBytes : (width i : ℕ) → List ℕ → List ℕ
+recordBytes width i bytes = slice (i * width) width bytes
 
 -- "every byte of the queue, pool and task records that X owns"
 pub record SameRecords (x : ℕ) (t t′ : Tables) : Type 0 where
-  pub queues : (i : ℕ) → i < slotCount → shareOfSlot i ≡ x → slice (i * queueWidth) queueWidth (t .queues) ≡ slice (i * queueWidth) queueWidth (t′ .queues)
-  pub pool : (b : ℕ) → b < bufferCount → shareOfBuffer b ≡ x → slice (b * bufferWidth) bufferWidth (t .pool) ≡ slice (b * bufferWidth) bufferWidth (t′ .pool)
-  pub tasks : (k : ℕ) → k < taskCount → shareOfTask k ≡ x → slice (k * taskWidth) taskWidth (t .tasks) ≡ slice (k * taskWidth) taskWidth (t′ .tasks)
+  pub queues : (i : ℕ) → i < slotCount → shareOfSlot i ≡ x → recordBytes queueWidth i (t .queues) ≡ recordBytes queueWidth i (t′ .queues)
+  pub pool : (b : ℕ) → b < bufferCount → shareOfBuffer b ≡ x → recordBytes bufferWidth b (t .pool) ≡ recordBytes bufferWidth b (t′ .pool)
+  pub tasks : (k : ℕ) → k < taskCount → shareOfTask k ≡ x → recordBytes taskWidth k (t .tasks) ≡ recordBytes taskWidth k (t′ .tasks)
 
 -- ---- The claim
 

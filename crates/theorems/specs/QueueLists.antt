@@ -2,12 +2,12 @@
 -- every queue's and every task's record.
 use mathlib.Core.Logic.{_↔_}
 use Rattle.ranks.specs.Prelude.{ℕ, suc, _-_, _<_, _≡_, Bool, true, false, not, _||_, List, [], _∷_, _++_, map, length, getD, take, eqb, ltb}
-use Rattle.ranks.specs.Lists.{if_then_else_, keep, mask, range}
+use Rattle.ranks.specs.Lists.{if_then_else_, filter, mask, range}
 use Rattle.ranks.specs.Position.{positionAt}
 use Rattle.ranks.specs.Steps.{byRank}
-use Rattle.records.specs.Split.{shareOfTask}
-use Rattle.records.specs.Layout.{slotCount, taskCount, slotOf, idOf}
-use Rattle.records.specs.Records.{Queue, Buffer, Task, State, hasPriority, freeQueue, queueAt, bufferAt, taskAt}
+use Rattle.records.specs.Split.{shareOfSlot, shareOfTask}
+use Rattle.records.specs.Layout.{slotCount, bufferCount, taskCount, slotOf, idOf}
+use Rattle.records.specs.Records.{Queue, Task, State, hasPriority, messageIn, freeQueue, queueAt, bufferAt, taskAt}
 use Rattle.records.specs.Changes.{atIndex, withCounts, withWaiters, withMessage, readyWith, waitingAt, moveTask, withTicks}
 use Rattle.records.specs.Bytes.{Tables, decode}
 use Rattle.records.specs.Status.{SUCCESSFUL, WAITING, OBJECT-WAS-DELETED, TIMEOUT}
@@ -16,6 +16,7 @@ use Rattle.specification.specs.Call.{Operation, Call, delete, send, urgent, bro
 use Rattle.specification.specs.Lookup.{hasWaiter, hasMessage}
 use Rattle.specification.specs.Create.{isFreeSlot, newQueue}
 use Rattle.specification.specs.Ident.{isNamed}
+use Rattle.specification.specs.Submit.{isFreeOf}
 use Rattle.specification.specs.Tick.{expires, isTimed}
 use Rattle.specification.specs.Step.{step}
 use Rattle.theorems.specs.SoundTables.{SoundTables, NotRefused}
@@ -24,10 +25,6 @@ use Rattle.theorems.specs.SoundTables.{SoundTables, NotRefused}
 pub record Contents : Type 0 where
   pub messages : List (List ℕ)
   pub waiters : List ℕ
-
--- the message in a buffer
-abbrev pub messageIn : Buffer → List ℕ
-messageIn m = take (m .messageLength) (m .bytes)
 
 -- of the queue in a slot, from the tables
 unfoldable pub contents : State → (slot : ℕ) → Contents
@@ -51,8 +48,8 @@ leaves messages waiters woken value =
     record { queue = record { messages = messages; waiters = waiters }; woken = woken; status = SUCCESSFUL; value = value }
 
 -- "Else the caller waits, status 14": there is no message
-abbrev pub waits : (waiters : List ℕ) → Effect
-waits waiters = record { queue = record { messages = []; waiters = waiters }; woken = []; status = WAITING; value = 0 }
+abbrev pub callerWaits : (waiters : List ℕ) → Effect
+callerWaits waiters = record { queue = record { messages = []; waiters = waiters }; woken = []; status = WAITING; value = 0 }
 
 -- "behind all of equal or smaller number"
 unfoldable pub insertByPriority : (priority : ℕ → ℕ) (newcomer : ℕ) → List ℕ → List ℕ
@@ -67,7 +64,7 @@ submit enqueue q =
 
 -- the message in front is taken; if there is none, the caller waits as `wait` says
 unfoldable pub takeMessage : (wait : List ℕ → List ℕ) → Contents → Effect
-takeMessage wait q = elim (q .messages) [ [] ↦ waits (wait (q .waiters)) | m ∷ ms ↦ leaves ms (q .waiters) [] (length m) ]
+takeMessage wait q = elim (q .messages) [ [] ↦ callerWaits (wait (q .waiters)) | m ∷ ms ↦ leaves ms (q .waiters) [] (length m) ]
 
 -- an operation that is not refused, on the queue in the slot
 unfoldable pub onList : State → (caller slot : ℕ) → Operation → Contents → Effect
@@ -82,16 +79,16 @@ onList s caller slot flush q = leaves [] (q .waiters) [] (length (q .messages))
 
 -- ---- What becomes of the records
 
-unfoldable pub isIn : ℕ → List ℕ → Bool
-isIn t [] = false
-isIn t (u ∷ us) = eqb t u || isIn t us
+unfoldable pub member : ℕ → List ℕ → Bool
+member t [] = false
+member t (u ∷ us) = eqb t u || member t us
 
 -- the record of task `k`, but for its position
 unfoldable pub taskAfter : (caller : ℕ) → Operation → Contents → (k : ℕ) → Task → Task
-taskAfter caller delete q k w = if isIn k (q .waiters) then readyWith OBJECT-WAS-DELETED w else w
-taskAfter caller (send message) q k w = if isIn k (take 1 (q .waiters)) then withMessage message w else w
-taskAfter caller (urgent message) q k w = if isIn k (take 1 (q .waiters)) then withMessage message w else w
-taskAfter caller (broadcast message) q k w = if isIn k (q .waiters) then withMessage message w else w
+taskAfter caller delete q k w = if member k (q .waiters) then readyWith OBJECT-WAS-DELETED w else w
+taskAfter caller (send message) q k w = if member k (take 1 (q .waiters)) then withMessage message w else w
+taskAfter caller (urgent message) q k w = if member k (take 1 (q .waiters)) then withMessage message w else w
+taskAfter caller (broadcast message) q k w = if member k (q .waiters) then withMessage message w else w
 taskAfter caller (receive option ticks) q k w =
     if eqb k caller then elim (q .messages) [ [] ↦ waitingAt (w .position) ticks w | m ∷ ms ↦ withMessage m w ] else w
 taskAfter caller getNumberPending q k w = w
@@ -123,7 +120,7 @@ SameButCounts q q′ = q′ ≡ withCounts (q′ .pending) (q′ .waiters) q
 
 -- the mask with the bits of the tasks in a list
 abbrev pub maskOf : (tasks : List ℕ) → ℕ
-maskOf tasks = mask (map (λ t. isIn t tasks) (range 0 taskCount))
+maskOf tasks = mask (map (λ t. member t tasks) (range 0 taskCount))
 
 -- The tests and the counts of the queue in the slot, and its waiters' ranks, are about its lists.
 pub record TestsOnLists (s : State) (slot : ℕ) : Type 0 where
@@ -133,6 +130,11 @@ pub record TestsOnLists (s : State) (slot : ℕ) : Type 0 where
   pub waiters : queueAt s slot .waiters ≡ length (contents s slot .waiters)
   -- task `k` stands at a rank of the queue exactly if it has that place in the list
   pub position : (k rank : ℕ) → k < taskCount → (taskAt s k .position ≡ positionAt slot rank) ↔ (getD (contents s slot .waiters) rank taskCount ≡ k)
+
+-- the lowest number that passes a test
+pub record Lowest (test : ℕ → Bool) (n : ℕ) : Type 0 where
+  pub passes : test n ≡ true
+  pub least : (i : ℕ) → i < n → test i ≡ false
 
 -- An operation on the queue in the slot, with the outcome `r`: it does `e` to the queue, `task k` to the record of task `k`, and `own` to the
 -- queue's own record.
@@ -144,15 +146,13 @@ pub record OperationOnLists (s : State) (slot : ℕ) (r : Outcome State) (e : Ef
   pub woken : r .answer .woken ≡ maskOf (e .woken)
   pub tasks : (k : ℕ) → k < taskCount → SameButPosition (task k (taskAt s k)) (taskAt (r .after) k)
   pub queues : (i : ℕ) → i < slotCount → SameButCounts (atIndex slot own i (queueAt s i)) (queueAt (r .after) i)
-
--- the lowest number that passes a test
-pub record Lowest (test : ℕ → Bool) (n : ℕ) : Type 0 where
-  pub passes : test n ≡ true
-  pub least : (i : ℕ) → i < n → test i ≡ false
+  -- "the lowest free buffer of the owner's share": no other free buffer is used
+  pub queued : (b : ℕ) → b < bufferCount → bufferAt s b .position .queue ≡ 0 → (bufferAt (r .after) b .position .queue ≡ 0 → ⊥)
+      → Lowest (λ j. isFreeOf (shareOfSlot slot) j (bufferAt s j)) b
 
 -- A create by a task of the share, with the outcome `r`: "Takes the lowest free slot of the caller's share with generation below 65,535 and
 -- raises its generation by one. [...] Value: the id."
-pub record CreateOnLists (s : State) (share name limit maxSize attributes : ℕ) (r : Outcome State) : Type 0 where
+pub record CreateOnTables (s : State) (share name limit maxSize attributes : ℕ) (r : Outcome State) : Type 0 where
   pub slot : ℕ
   pub lowest : Lowest (λ i. isFreeSlot share i (queueAt s i)) slot
   pub answer : r .answer ≡ record { status = SUCCESSFUL; value = idOf (suc (queueAt s slot .generation)) slot; woken = 0 }
@@ -163,20 +163,20 @@ pub record CreateOnLists (s : State) (share name limit maxSize attributes : ℕ)
   pub lists : (i : ℕ) → i < slotCount → contents (r .after) i ≡ contents s i
 
 -- An ident, with the answer `a`: "Lowest live slot of that share with the name; in a foreign share only OPEN ones. Value: the id."
-pub record IdentOnLists (s : State) (caller name share : ℕ) (a : Answer) : Type 0 where
+pub record IdentOnTables (s : State) (caller name share : ℕ) (a : Answer) : Type 0 where
   pub slot : ℕ
   pub lowest : Lowest (λ i. isNamed caller name share i (queueAt s i)) slot
   pub answer : a ≡ record { status = SUCCESSFUL; value = idOf (queueAt s slot .generation) slot; woken = 0 }
 
 -- the tasks whose last tick has come
 abbrev pub expired : State → List ℕ
-expired s = keep (λ k. expires (taskAt s k)) (range 0 taskCount)
+expired s = filter (λ k. expires (taskAt s k)) (range 0 taskCount)
 
 -- A tick, with the outcome `r`: "all that reach 0 become ready together [...]. Value: how many; mask set."
 pub record TickOnLists (s : State) (r : Outcome State) : Type 0 where
   pub lists : (i : ℕ) → i < slotCount
       → contents (r .after) i
-      ≡ record { messages = contents s i .messages; waiters = keep (λ k. not (expires (taskAt s k))) (contents s i .waiters) }
+      ≡ record { messages = contents s i .messages; waiters = filter (λ k. not (expires (taskAt s k))) (contents s i .waiters) }
   pub status : r .answer .status ≡ SUCCESSFUL
   pub value : r .answer .value ≡ length (expired s)
   pub woken : r .answer .woken ≡ maskOf (expired s)
@@ -201,8 +201,8 @@ pub record QueuesAsLists : Type 0 where
   pub create : (t : Tables) (caller name limit maxSize attributes : ℕ) → SoundTables t
       → argumentsInRange (call caller (create name limit maxSize attributes)) ≡ true
       → NotRefused (step t (call caller (create name limit maxSize attributes)) .answer)
-      → CreateOnLists (decode t) (shareOfTask caller) name limit maxSize attributes (outcomeOf t (call caller (create name limit maxSize attributes)))
+      → CreateOnTables (decode t) (shareOfTask caller) name limit maxSize attributes (outcomeOf t (call caller (create name limit maxSize attributes)))
   pub ident-changes-nothing : (t : Tables) (caller name share : ℕ) → SoundTables t → step t (call caller (ident name share)) .after ≡ t
   pub ident : (t : Tables) (caller name share : ℕ) → SoundTables t → NotRefused (step t (call caller (ident name share)) .answer)
-      → IdentOnLists (decode t) caller name share (step t (call caller (ident name share)) .answer)
+      → IdentOnTables (decode t) caller name share (step t (call caller (ident name share)) .answer)
   pub tick : (t : Tables) → SoundTables t → TickOnLists (decode t) (outcomeOf t tick)

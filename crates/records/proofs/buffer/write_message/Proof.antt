@@ -1,15 +1,14 @@
-use mathlib.Core.Path.{_≡_, refl, sym, ap, _∙_, subst}
-use Prim.Native.Nat.{ℕ, _+_, _*_}
-use mathlib.Core.List.{List}
-use Rattle.ranks.specs.Table.{slice, spliced}
+-- `records::buffer::write_message` meets its contract. Assumes nothing.
+use mathlib.Core.Path.{ap, _∙_}
+use Prim.Native.Nat.{_*_}
+use Rattle.ranks.specs.Table.{spliced}
+use Rattle.records.specs.Bytes.{decodeBuffer, encodeBuffer}
+use Rattle.records.specs.Changes.{messageBuffer}
+use Rattle.records.proofs.DecodeEncode.{decode-encode-buffer, length-buffer}
 use Rattle.records.proofs.Writing
 use borrow.Author.Needs.{needs}
 use Rattle.records.proofs.buffer.write_message.Statement.{statement}
 use Rattle.records.proofs.buffer.write_message.Tie as tie
-use Rattle.records.proofs.buffer.write_message.Reads as reads
-use Rattle.records.proofs.buffer.write_message.Lts as lts
-use Rattle.records.proofs.buffer.encode_message.Reads as encode-message-reads
-use Rattle.records.proofs.bytes.copy_into.Reads as copy-into-reads
 
 encode-message-requires : tie.Need-encode-message-requires
 encode-message-requires c κs = search needs
@@ -30,7 +29,9 @@ returns : tie.Need-returns
 returns c =
     let s = c .before .before .before .before .before .before .before .before in
     let a = s .args in
-    Writing.message-put (record { queue = a .queue; rank = a .rank }) (a .pool .now) (c .before .before .copy-into .last .0) (a .message .now) (a .b) (s .pre .0) (s .pre .1 .0) (s .pre .1 .1)
+    let m = messageBuffer (record { queue = a .queue; rank = a .rank }) (a .message .now) in
+    let fit = Writing.message-fits (record { queue = a .queue; rank = a .rank }) (a .message .now) (s .pre .1 .1) in
+    Writing.table-written decodeBuffer 64 128 (a .pool .now) (c .before .before .copy-into .last .0) (encodeBuffer m) (a .b) m (s .pre .1 .0) (s .pre .0) (length-buffer m fit) (decode-encode-buffer m fit)
     (c .before .before .copy-into .ensures ∙ ap (spliced (a .pool .now) (a .b * 128)) (c .before .before .before .before .before .encode-message .ensures))
 
 pub write-message-spec : {M : Type 1} → statement M

@@ -1,17 +1,11 @@
-use mathlib.Core.Path.{_≡_, refl, sym, ap, _∙_, subst}
-use Prim.Native.Nat.{ℕ, _≤_, _<_, _+_, _*_, _-_, _%_, _/_}
-use native.Mathlib.Omega.{arith}
-use mathlib.Core.List.{List, [], _∷_, _++_}
-use lib.ListN.{length, take, drop, length-drop}
-use Rattle.ranks.specs.Table.{slice, spliced}
-use Rattle.records.specs.Bytes.{decodeQueue, encodeQueue, toLittleEndian, decodeTask, decodeBuffer}
+-- `records::queue::read_queue` meets its contract. Assumes nothing.
+use mathlib.Core.Path.{ap, _∙_}
+use Prim.Native.Nat.{_*_}
+use Rattle.records.specs.Bytes.{decodeQueue}
 use Rattle.records.proofs.Writing
 use borrow.Author.Needs.{needs}
 use Rattle.records.proofs.queue.read_queue.Statement.{statement}
 use Rattle.records.proofs.queue.read_queue.Tie as tie
-use Rattle.records.proofs.queue.read_queue.Reads as reads
-use Rattle.records.proofs.queue.read_queue.Lts as lts
-use Rattle.records.proofs.queue.decode_queue.Reads as decode-queue-reads
 
 mul-from : tie.Need-mul-from
 mul-from c = search needs
@@ -32,10 +26,9 @@ decode-queue-requires : tie.Need-decode-queue-requires
 decode-queue-requires c κs = search needs
 
 returns : tie.Need-returns
-unfolding slice
 returns c =
     let a = c .before .before .before .args in
-    c .decode-queue .ensures ∙ ap (λ (n : ℕ). decodeQueue (take n (drop (a .slot * 16) (a .queues .now)))) (let e : a .slot * 16 + 16 - a .slot * 16 ≡ 16 = omega arith in e)
+    c .decode-queue .ensures ∙ ap decodeQueue (Writing.slice-lent (a .queues .now) (a .slot * 16) 16)
 
 pub read-queue-spec : {M : Type 1} → statement M
 read-queue-spec =

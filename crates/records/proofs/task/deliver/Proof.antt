@@ -1,20 +1,9 @@
-use mathlib.Core.Path.{_≡_, refl, sym, ap, _∙_, subst}
-use Prim.Native.Nat.{ℕ, _≤_, _<_, _+_, _*_, _-_, _%_, _/_}
-use native.Mathlib.Omega.{arith}
-use mathlib.Core.List.{List, [], _∷_, _++_}
-use lib.ListN.{getD, set, replicate, length, take, drop, length-drop}
-use lib.Seq.{length-take-le}
-use Rattle.ranks.specs.Table.{slice, spliced}
-use Rattle.records.specs.Bytes.{decodeQueue, encodeQueue, toLittleEndian, decodeTask, decodeBuffer}
+-- `records::task::deliver` meets its contract. Assumes nothing.
 use Rattle.records.specs.Changes.{withMessage}
-use Rattle.records.proofs.DecodeEncode.{decode-encode-queue}
 use Rattle.records.proofs.Writing
 use borrow.Author.Needs.{needs}
 use Rattle.records.proofs.task.deliver.Statement.{statement}
 use Rattle.records.proofs.task.deliver.Tie as tie
-use Rattle.records.proofs.task.deliver.Reads as reads
-use Rattle.records.proofs.task.deliver.Lts as lts
-use Rattle.records.proofs.task.deliver_to.Reads as deliver-to-reads
 
 mul-from : tie.Need-mul-from
 mul-from c = search needs
@@ -42,9 +31,8 @@ returns c =
     let s = c .before .before .before .before .before .before in
     let a = s .args in
     let k = c .before .before .deliver-to in
-    let atIndex = a .t * 136 in
     Writing.tasks-lent (a .tasks .now) (k .last .0) (a .t) (withMessage (a .message .now)) (s .pre .0) (s .pre .1 .0)
-    (k .kept .0 ∙ length-take-le (atIndex + 136 - atIndex) (drop atIndex (a .tasks .now)) (omega (arith, length-drop atIndex (a .tasks .now)))) (k .ensures)
+    (k .kept .0) (k .ensures)
 
 pub deliver-spec : {M : Type 1} → statement M
 deliver-spec =

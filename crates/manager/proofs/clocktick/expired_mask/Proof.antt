@@ -1,0 +1,69 @@
+-- `manager::clocktick::expired_mask` meets its contract. Assumes nothing.
+use borrow.Author.Needs.{needs}
+use native.Mathlib.Omega.{arith}
+use mathlib.Core.Path.{ap, _∙_}
+use mathlib.Core.Bool.{_&&_}
+use lib.Dec.{eqb}
+use Rattle.records.specs.declared.task.TaskHead.{TaskHead}
+use Rattle.specification.specs.Tick.{expires}
+use Rattle.manager.proofs.Masks.{MaskFrom, mask-none, mask-fits, mask-more, mask-all}
+use Rattle.manager.proofs.clocktick.expired_mask.Statement.{statement}
+use Rattle.manager.proofs.clocktick.expired_mask.Tie as tie
+
+abbrev Inv-loop : tie.InvT-loop
+Inv-loop tasks m₀ t₀ m t = MaskFrom expires tasks m t
+
+abbrev μ-loop : tie.MeasureT-loop
+μ-loop tasks m₀ t₀ m t = t
+
+loop-holds : tie.Need-loop-holds Inv-loop μ-loop
+loop-holds c =
+    let a = c .before .args in
+    mask-none expires (a .tasks .now)
+
+sub-t : tie.Need-sub-t Inv-loop μ-loop
+sub-t c = search needs
+
+read-head-requires : tie.Need-read-head-requires Inv-loop μ-loop
+read-head-requires c κs = search needs
+
+expires-requires : tie.Need-expires-requires Inv-loop μ-loop
+expires-requires c κs = search needs
+
+with-bit-requires : tie.Need-with-bit-requires Inv-loop μ-loop
+with-bit-requires c κs =
+    let at = c .before .before in
+    let v = at .before .loop in
+    let a = at .before .before .before .args in
+    mask-fits expires (a .tasks .now) (v .m) (v .t) (v .inv) (at .loop-test .taken)
+
+loop-less : tie.Need-loop-less Inv-loop μ-loop
+loop-less c = search needs
+
+loop-again : tie.Need-loop-again Inv-loop μ-loop
+loop-again c =
+    let at = c .before .before .before in
+    let v = at .before .loop in
+    let a = at .before .before .before .args in
+    mask-more expires (a .tasks .now) (v .m) (v .t) (v .inv) (at .loop-test .taken) (c .before .expires .result) (c .with-bit .result) (c .before .expires .ensures ∙ ap (λ (h : TaskHead). eqb (h .state) 1 && eqb (h .ticksLeft) 1) (c .before .before .read-head .ensures)) (c .with-bit .ensures)
+
+returns : tie.Need-returns Inv-loop μ-loop
+returns c =
+    let v = c .before .loop in
+    let a = c .before .before .before .args in
+    mask-all expires (a .tasks .now) (v .m) (v .t) (v .inv) (omega arith)
+
+pub expired-mask-spec : {M : Type 1} → statement M
+expired-mask-spec =
+    tie.close
+    (tie.spec
+    Inv-loop
+    μ-loop
+    loop-holds
+    sub-t
+    read-head-requires
+    expires-requires
+    with-bit-requires
+    loop-less
+    loop-again
+    returns)

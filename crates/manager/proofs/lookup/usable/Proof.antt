@@ -1,0 +1,49 @@
+-- `manager::lookup::usable` meets its contract. Assumes nothing.
+use mathlib.Core.Path.{_≡_, refl, ap, ap₂, _∙_}
+use mathlib.Core.Bool.{Bool, true, false, _&&_, _||_}
+use mathlib.Core.List.{[], _∷_}
+use Prim.Native.Nat.{_/_}
+use lib.Dec.{eqb}
+use Rattle.ranks.specs.Lists.{all}
+use borrow.Author.Needs.{needs}
+use Rattle.manager.proofs.lookup.usable.Statement.{statement}
+use Rattle.manager.proofs.lookup.usable.Tie as tie
+
+all-three : (a b c : Bool) → a && (b && c) ≡ all (a ∷ b ∷ c ∷ [])
+unfolding all
+all-three true true true = refl
+all-three true true false = refl
+all-three true false c = refl
+all-three false b c = refl
+
+cast-share-of-slot : tie.Need-cast-share-of-slot
+cast-share-of-slot c = search needs
+
+share-of-slot-requires : tie.Need-share-of-slot-requires
+share-of-slot-requires c κs = search needs
+
+share-of-task-requires : tie.Need-share-of-task-requires
+share-of-task-requires c κs = search needs
+
+cast-result : tie.Need-cast-result
+cast-result c = search needs
+
+is-open-requires : tie.Need-is-open-requires
+is-open-requires c κs = search needs
+
+returns : tie.Need-returns
+returns c =
+    let a = c .before .before .before .before .before .args in
+    let own = ap₂ {C = Bool} eqb (c .before .before .before .before .share-of-slot .ensures) (c .before .before .before .share-of-task .ensures) in
+    ap (λ (x : Bool). eqb (a .q .live) 1 && (eqb (a .id / 16) (a .q .generation) && x)) (ap₂ {C = Bool} _||_ own (c .is-open .ensures)) ∙ all-three _ _ _
+
+pub usable-spec : {M : Type 1} → statement M
+usable-spec =
+    tie.close
+    (tie.spec
+    cast-share-of-slot
+    share-of-slot-requires
+    share-of-task-requires
+    cast-result
+    is-open-requires
+    returns)

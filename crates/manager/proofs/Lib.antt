@@ -1,1 +1,9 @@
+pub mod Changed
+pub mod Creates
+pub mod Idents
 pub mod Masks
+pub mod OnQueue
+pub mod Operations
+pub mod Outcomes
+pub mod Searches
+pub mod Sums

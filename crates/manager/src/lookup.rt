@@ -3,6 +3,7 @@ ghost use mathlib.Core.Path.{_≡_};
 ghost use mathlib.Core.Bool.{true, false, not};
 ghost use Prim.Native.Nat.{_+_, _*_, _<_, _^_};
 ghost use Rattle.ranks.specs.Lists.{if_then_else_};
+ghost use Rattle.records.specs.Layout.{idOf};
 ghost use Rattle.records.specs.Records.{isOpen, sizeAllowed};
 ghost use Rattle.specification.specs.Lookup.{usableQueue, isForeign};
 use records::queue::QueueRecord;
@@ -53,4 +54,12 @@ pub fn with_bit(m: u32, set: bool) -> u32
     ensures { λ r. ⌜ r ≡ (if set then 1 + 2 * m else 2 * m) ⌝ }
 {
     if set { 1 + 2 * m } else { 2 * m }
+}
+
+// "The id is generation * 16 + slot."
+pub fn id_of(generation: u16, slot: usize) -> u32
+    requires { ⌜ slot < 16 ⌝ }
+    ensures { λ r. ⌜ r ≡ idOf generation slot ⌝ }
+{
+    generation as u32 * 16 + slot as u32
 }

@@ -44,3 +44,7 @@ shareOfTask t = first (map (λ s. holds (s .tasks) t) split)
 -- "In each share the limits of live queues sum to at most 16": to its buffers.
 unfoldable pub shareLimit : ℕ → ℕ
 shareLimit p = getD (map (λ s. s .buffers .count) split) p 0
+
+-- the first of the buffers that a share owns
+unfoldable pub firstBuffer : ℕ → ℕ
+firstBuffer p = getD (map (λ s. s .buffers .from) split) p 0

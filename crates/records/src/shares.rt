@@ -1,7 +1,7 @@
 // Which share owns which slot and which task.
 ghost use mathlib.Core.Path.{_≡_};
 ghost use Prim.Native.Nat.{_<_};
-ghost use Rattle.records.specs.Split.{shareOfSlot, shareOfTask};
+ghost use Rattle.records.specs.Split.{shareOfSlot, shareOfBuffer, shareOfTask, firstBuffer, shareLimit};
 
 const SHARE_OF_SLOT: [usize; 16] = [0, 0, 0, 0, 1, 1, 1, 1, 2, 2, 2, 2, 3, 3, 3, 3];
 
@@ -40,6 +40,77 @@ const SHARE_OF_TASK: [usize; 32] = [
     3,
 ];
 
+const SHARE_OF_BUFFER: [usize; 64] = [
+    0,
+    0,
+    0,
+    0,
+    0,
+    0,
+    0,
+    0,
+    0,
+    0,
+    0,
+    0,
+    0,
+    0,
+    0,
+    0,
+    1,
+    1,
+    1,
+    1,
+    1,
+    1,
+    1,
+    1,
+    1,
+    1,
+    1,
+    1,
+    1,
+    1,
+    1,
+    1,
+    2,
+    2,
+    2,
+    2,
+    2,
+    2,
+    2,
+    2,
+    2,
+    2,
+    2,
+    2,
+    2,
+    2,
+    2,
+    2,
+    3,
+    3,
+    3,
+    3,
+    3,
+    3,
+    3,
+    3,
+    3,
+    3,
+    3,
+    3,
+    3,
+    3,
+    3,
+    3,
+];
+
+const FIRST_BUFFER: [usize; 4] = [0, 16, 32, 48];
+
+const SHARE_LIMIT: [usize; 4] = [16, 16, 16, 16];
+
 pub fn share_of_slot(slot: usize) -> usize
     requires { ⌜ slot < 16 ⌝ }
     ensures { λ r. ⌜ r ≡ shareOfSlot slot ⌝ }
@@ -52,4 +123,27 @@ pub fn share_of_task(task: usize) -> usize
     ensures { λ r. ⌜ r ≡ shareOfTask task ⌝ }
 {
     SHARE_OF_TASK[task]
+}
+
+pub fn share_of_buffer(b: usize) -> usize
+    requires { ⌜ b < 64 ⌝ }
+    ensures { λ r. ⌜ r ≡ shareOfBuffer b ⌝ }
+{
+    SHARE_OF_BUFFER[b]
+}
+
+// The first buffer of the share.
+pub fn first_buffer(share: usize) -> usize
+    requires { ⌜ share < 4 ⌝ }
+    ensures { λ r. ⌜ r ≡ firstBuffer share ⌝ }
+{
+    FIRST_BUFFER[share]
+}
+
+// How many buffers the share has, which bounds its limits.
+pub fn share_limit(share: usize) -> usize
+    requires { ⌜ share < 4 ⌝ }
+    ensures { λ r. ⌜ r ≡ shareLimit share ⌝ }
+{
+    SHARE_LIMIT[share]
 }

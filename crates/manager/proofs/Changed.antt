@@ -1,0 +1,46 @@
+-- Changes to a table one after the other. Assumes nothing.
+use Prim.Native.Nat.{ℕ, zero, suc, _+_, _^_, _<_}
+use native.Mathlib.Omega.{arith}
+use native.Mathlib.Nat.{add-zero, suc-add, add-suc, not-suc-le-zero, pow-suc, zero-add}
+use mathlib.Core.Path.{_≡_, refl, sym, ap, _∙_, subst}
+use mathlib.Core.Logic.{⊎-elim}
+use mathlib.Core.List.{List, [], _∷_}
+use lib.Dec.{eqb}
+use lib.ListN.{length, getD}
+use borrow.Author.Tests.{eq-eqb, ne-eqb}
+use Rattle.ranks.specs.Lists.{if_then_else_, mapFromIndex, mapWithIndex, mask}
+use Rattle.ranks.proofs.Tests.{same?}
+use Rattle.ranks.proofs.Lists.{at-mapped, length-mapped, mapped-cong}
+use Rattle.records.specs.Changes.{atIndex}
+
+-- record i changed after each was
+pub at-after : {A : Type 0} (i : ℕ) (f : A → A) (g : ℕ → A → A) (l : List A) (d : A)
+    → mapWithIndex (atIndex i f) (mapWithIndex g l) ≡ mapWithIndex (λ j x. if eqb j i then f (g j x) else g j x) l
+at-after i f g l d =
+    mapped-cong (atIndex i f) (λ j x. if eqb j i then f (g j x) else g j x) (mapWithIndex g l) l d d d (length-mapped g l)
+    (λ j h. ap (λ x. if eqb j i then f x else x) (at-mapped g l j d d (subst (λ (n : ℕ). j < n) (length-mapped g l) h)))
+
+-- record i set to what is made of it
+pub at-known : {A : Type 0} (i : ℕ) (f : A → A) (l : List A) (d x : A) → x ≡ f (getD l i d) → mapWithIndex (atIndex i (λ _. x)) l ≡ mapWithIndex (atIndex i f) l
+at-known i f l d x e =
+    mapped-cong (atIndex i (λ _. x)) (atIndex i f) l l d d d refl
+    (λ j h. ⊎-elim (λ (q : j ≡ i). rw (q, eq-eqb i i refl) e) (λ ne. rw (ne-eqb j i ne)) (same? j i))
+
+mask-none : {A : Type 0} (k t : ℕ) (l : List A) → t < k → mask (mapFromIndex k (λ j w. eqb j t) l) ≡ 0
+unfolding mask mapFromIndex
+mask-none k t [] h = refl
+mask-none k t (x ∷ l) h = rw (ne-eqb k t (λ e. omega arith)) (let ih = mask-none (suc k) t l (omega arith) in omega arith)
+
+mask-from : {A : Type 0} (k t : ℕ) (l : List A) → t < length l → mask (mapFromIndex k (λ j w. eqb j (k + t)) l) ≡ 2 ^ t
+unfolding mask mapFromIndex
+mask-from k t [] h = absurd (not-suc-le-zero h)
+mask-from k zero (x ∷ l) h =
+    rw (add-zero k, eq-eqb k k refl) (let ih = mask-none (suc k) k l (omega arith) in omega arith)
+mask-from k (suc t) (x ∷ l) h =
+    rw (add-suc k t, ← suc-add k t, ne-eqb k (suc k + t) (λ e. omega arith))
+    (let ih = mask-from (suc k) t l (omega arith) in let p = pow-suc 2 t in omega arith)
+
+-- the mask of one task
+pub mask-one : {A : Type 0} (t : ℕ) (l : List A) → t < length l → mask (mapWithIndex (λ j w. eqb j t) l) ≡ 2 ^ t
+unfolding mapWithIndex
+mask-one t l h = ap (λ (k : ℕ). mask (mapFromIndex 0 (λ j w. eqb j k) l)) (sym (zero-add t)) ∙ mask-from 0 t l h

@@ -1,0 +1,54 @@
+-- A search of a table for the first record that passes a test, from record i on. Assumes nothing.
+use Prim.Native.Nat.{ℕ, _+_, _*_, _≤_, _<_}
+use native.Mathlib.Nat.{zero-add}
+use native.Mathlib.Omega.{arith}
+use mathlib.Core.Path.{_≡_, sym, ap, _∙_}
+use mathlib.Core.Bool.{Bool, true, false}
+use mathlib.Core.List.{List, map}
+use lib.ListN.{length, getD, drop, length-map}
+use Rattle.ranks.specs.Lists.{mapWithIndex, first}
+use Rattle.ranks.specs.Table.{slice, records}
+use Rattle.ranks.proofs.Lists.{at-mapped, length-mapped, first-true, first-more, first-here, first-none}
+use Rattle.ranks.proofs.Table.{length-records}
+use Rattle.records.proofs.Writing.{at-table}
+
+module _ {A : Type 0} (read : List ℕ → A) (d : A) (k n : ℕ) (test : ℕ → A → Bool) (t : List ℕ) where
+  -- the test of each record
+  abbrev pub tests : List Bool
+  tests = mapWithIndex test (map read (records k n t))
+
+  table-size : length (map read (records k n t)) ≡ k
+  table-size = length-map (records k n t) read ∙ length-records k n t
+
+  pub tests-size : length tests ≡ k
+  tests-size = length-mapped test (map read (records k n t)) ∙ table-size
+
+  -- the first that passes is not among the first i
+  abbrev pub Searched : ℕ → Type 0
+  Searched i = (i ≤ k) × (first tests ≡ i + first (drop i tests))
+
+  pub search-begins : Searched 0
+  search-begins = (omega arith, sym (zero-add (first tests)))
+
+  module _ (i : ℕ) (so-far : Searched i) where
+    pub search-ends : i ≡ k → i ≡ first tests
+    search-ends e = first-none tests i (so-far .1) (e ∙ sym tests-size)
+
+    module _ (h : i < k) where
+      tested : getD tests i false ≡ test i (read (slice (i * n) n t))
+      tested =
+          at-mapped test (map read (records k n t)) i d false (omega (arith, table-size))
+          ∙ ap (test i) (at-table read k n t i h d)
+
+      pub search-finds : test i (read (slice (i * n) n t)) ≡ true → i ≡ first tests
+      search-finds e = first-here tests i (so-far .1) (omega (arith, tests-size)) (tested ∙ e)
+
+      pub search-goes-on : test i (read (slice (i * n) n t)) ≡ false → Searched (i + 1)
+      search-goes-on e = (omega arith, first-more tests i (so-far .1) (omega (arith, tests-size)) (tested ∙ e))
+
+  -- the record that was found passes the test
+  pub search-found : (i : ℕ) → i < k → i ≡ first tests → test i (read (slice (i * n) n t)) ≡ true
+  search-found i h e =
+      sym (at-mapped test (map read (records k n t)) i d false (omega (arith, table-size)) ∙ ap (test i) (at-table read k n t i h d))
+      ∙ ap (λ (j : ℕ). getD tests j false) e
+      ∙ first-true tests (omega (arith, e, tests-size))

@@ -1,0 +1,63 @@
+-- `manager::msgqcreate::free_slot` meets its contract. Assumes nothing.
+use Prim.Native.Nat.{_-_}
+use native.Mathlib.Omega.{arith}
+use mathlib.Core.Path.{sym, _∙_}
+use borrow.Author.Needs.{needs}
+use Rattle.records.specs.Records.{freeQueue}
+use Rattle.records.specs.Bytes.{decodeQueue}
+use Rattle.specification.specs.Create.{isFreeSlot}
+use Rattle.manager.proofs.Searches.{Searched, search-begins, search-finds, search-goes-on, search-ends}
+use Rattle.manager.proofs.msgqcreate.free_slot.Statement.{statement}
+use Rattle.manager.proofs.msgqcreate.free_slot.Tie as tie
+
+abbrev Inv-loop : tie.InvT-loop
+Inv-loop queues share i₀ i = Searched decodeQueue (freeQueue 0) 16 16 (isFreeSlot share) queues i
+
+abbrev μ-loop : tie.MeasureT-loop
+μ-loop queues share i₀ i = 16 - i
+
+loop-holds : tie.Need-loop-holds Inv-loop μ-loop
+loop-holds c = search-begins decodeQueue (freeQueue 0) 16 16 (isFreeSlot (c .before .args .share)) (c .before .args .queues .now)
+
+is-free-slot-requires : tie.Need-is-free-slot-requires Inv-loop μ-loop
+is-free-slot-requires c κs = search needs
+
+returns : tie.Need-returns Inv-loop μ-loop
+returns c =
+    let v = c .before .before .before .loop in
+    let a = c .before .before .before .before .before .args in
+    search-finds decodeQueue (freeQueue 0) 16 16 (isFreeSlot (a .share)) (a .queues .now) (v .i) (v .inv) (c .before .before .loop-test .taken)
+    (sym (c .before .is-free-slot .ensures) ∙ c .if1 .taken)
+
+add-i : tie.Need-add-i Inv-loop μ-loop
+add-i c = search needs
+
+loop-less : tie.Need-loop-less Inv-loop μ-loop
+loop-less c = search needs
+
+loop-again : tie.Need-loop-again Inv-loop μ-loop
+loop-again c =
+    let v = c .before .before .before .loop in
+    let a = c .before .before .before .before .before .args in
+    search-goes-on decodeQueue (freeQueue 0) 16 16 (isFreeSlot (a .share)) (a .queues .now) (v .i) (v .inv) (c .before .before .loop-test .taken)
+    (sym (c .before .is-free-slot .ensures) ∙ c .if1 .left)
+
+returns-2 : tie.Need-returns-2 Inv-loop μ-loop
+returns-2 c =
+    let v = c .before .loop in
+    let a = c .before .before .before .args in
+    search-ends decodeQueue (freeQueue 0) 16 16 (isFreeSlot (a .share)) (a .queues .now) (v .i) (v .inv) (omega arith)
+
+pub free-slot-spec : {M : Type 1} → statement M
+free-slot-spec =
+    tie.close
+    (tie.spec
+    Inv-loop
+    μ-loop
+    loop-holds
+    is-free-slot-requires
+    returns
+    add-i
+    loop-less
+    loop-again
+    returns-2)

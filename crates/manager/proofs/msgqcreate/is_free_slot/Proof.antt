@@ -1,0 +1,22 @@
+-- `manager::msgqcreate::is_free_slot` meets its contract. Assumes nothing.
+use mathlib.Core.Path.{ap, _∙_}
+use Rattle.specification.specs.Create.{isFreeSlot}
+use Rattle.manager.proofs.Creates.{free-test}
+use borrow.Author.Needs.{needs}
+use Rattle.manager.proofs.msgqcreate.is_free_slot.Statement.{statement}
+use Rattle.manager.proofs.msgqcreate.is_free_slot.Tie as tie
+
+read-queue-requires : tie.Need-read-queue-requires
+read-queue-requires c κs = search needs
+
+share-of-slot-requires : tie.Need-share-of-slot-requires
+share-of-slot-requires c κs = search needs
+
+returns : tie.Need-returns
+returns c =
+    let a = c .before .before .before .before .before .args in
+    let q = c .before .before .before .read-queue in
+    free-test (a .share) (a .slot) (q .result) _ (c .before .share-of-slot .ensures) ∙ ap (isFreeSlot (a .share) (a .slot)) (q .ensures)
+
+pub is-free-slot-spec : {M : Type 1} → statement M
+is-free-slot-spec = tie.close (tie.spec read-queue-requires share-of-slot-requires returns)

@@ -1,0 +1,36 @@
+-- `manager::msgqident::is_named` meets its contract. Assumes nothing.
+use mathlib.Core.Path.{ap, _∙_}
+use Rattle.specification.specs.Ident.{isNamed}
+use Rattle.manager.proofs.Idents.{named-test}
+use borrow.Author.Needs.{needs}
+use Rattle.manager.proofs.msgqident.is_named.Statement.{statement}
+use Rattle.manager.proofs.msgqident.is_named.Tie as tie
+
+read-queue-requires : tie.Need-read-queue-requires
+read-queue-requires c κs = search needs
+
+share-of-slot-requires : tie.Need-share-of-slot-requires
+share-of-slot-requires c κs = search needs
+
+share-of-task-requires : tie.Need-share-of-task-requires
+share-of-task-requires c κs = search needs
+
+is-open-requires : tie.Need-is-open-requires
+is-open-requires c κs = search needs
+
+returns : tie.Need-returns
+returns c =
+    let a = c .before .before .before .before .before .before .before .args in
+    let q = c .before .before .before .before .before .read-queue in
+    named-test (a .caller) (a .name) (a .share) (a .slot) (q .result) _ _ _ (c .before .before .before .share-of-slot .ensures) (c .before .share-of-task .ensures) (c .is-open .ensures)
+    ∙ ap (isNamed (a .caller) (a .name) (a .share) (a .slot)) (q .ensures)
+
+pub is-named-spec : {M : Type 1} → statement M
+is-named-spec =
+    tie.close
+    (tie.spec
+    read-queue-requires
+    share-of-slot-requires
+    share-of-task-requires
+    is-open-requires
+    returns)

@@ -1,0 +1,65 @@
+-- `manager::msgqident::named` meets its contract. Assumes nothing.
+use Prim.Native.Nat.{_-_}
+use native.Mathlib.Omega.{arith}
+use mathlib.Core.Path.{sym, _∙_}
+use borrow.Author.Needs.{needs}
+use Rattle.records.specs.Records.{freeQueue}
+use Rattle.records.specs.Bytes.{decodeQueue}
+use Rattle.specification.specs.Ident.{isNamed}
+use Rattle.manager.proofs.Searches.{Searched, search-begins, search-finds, search-goes-on, search-ends}
+use Rattle.manager.proofs.msgqident.named.Statement.{statement}
+use Rattle.manager.proofs.msgqident.named.Tie as tie
+
+abbrev Inv-loop : tie.InvT-loop
+Inv-loop queues caller name share i₀ i = Searched decodeQueue (freeQueue 0) 16 16 (isNamed caller name share) queues i
+
+abbrev μ-loop : tie.MeasureT-loop
+μ-loop queues caller name share i₀ i = 16 - i
+
+loop-holds : tie.Need-loop-holds Inv-loop μ-loop
+loop-holds c =
+    let a = c .before .args in
+    search-begins decodeQueue (freeQueue 0) 16 16 (isNamed (a .caller) (a .name) (a .share)) (a .queues .now)
+
+is-named-requires : tie.Need-is-named-requires Inv-loop μ-loop
+is-named-requires c κs = search needs
+
+returns : tie.Need-returns Inv-loop μ-loop
+returns c =
+    let v = c .before .before .before .loop in
+    let a = c .before .before .before .before .before .args in
+    search-finds decodeQueue (freeQueue 0) 16 16 (isNamed (a .caller) (a .name) (a .share)) (a .queues .now) (v .i) (v .inv) (c .before .before .loop-test .taken)
+    (sym (c .before .is-named .ensures) ∙ c .if1 .taken)
+
+add-i : tie.Need-add-i Inv-loop μ-loop
+add-i c = search needs
+
+loop-less : tie.Need-loop-less Inv-loop μ-loop
+loop-less c = search needs
+
+loop-again : tie.Need-loop-again Inv-loop μ-loop
+loop-again c =
+    let v = c .before .before .before .loop in
+    let a = c .before .before .before .before .before .args in
+    search-goes-on decodeQueue (freeQueue 0) 16 16 (isNamed (a .caller) (a .name) (a .share)) (a .queues .now) (v .i) (v .inv) (c .before .before .loop-test .taken)
+    (sym (c .before .is-named .ensures) ∙ c .if1 .left)
+
+returns-2 : tie.Need-returns-2 Inv-loop μ-loop
+returns-2 c =
+    let v = c .before .loop in
+    let a = c .before .before .before .args in
+    search-ends decodeQueue (freeQueue 0) 16 16 (isNamed (a .caller) (a .name) (a .share)) (a .queues .now) (v .i) (v .inv) (omega arith)
+
+pub named-spec : {M : Type 1} → statement M
+named-spec =
+    tie.close
+    (tie.spec
+    Inv-loop
+    μ-loop
+    loop-holds
+    is-named-requires
+    returns
+    add-i
+    loop-less
+    loop-again
+    returns-2)

@@ -1,0 +1,44 @@
+-- The code's answers by the paper's numbers, and what the code of a directive promises.
+use Rattle.ranks.specs.Prelude.{ℕ, _≡_, Bool, true, false, List, [], _∷_}
+use Rattle.ranks.specs.Lists.{if_then_else_}
+use Rattle.records.specs.Records.{State}
+use Rattle.records.specs.Bytes.{Tables, decodeQueues, decode, rightLengths}
+use Rattle.records.specs.Status.{SUCCESSFUL, WAITING}
+use Rattle.specification.specs.Answer.{Answer, Outcome, Refusal, refuseIfAny}
+use Rattle.specification.specs.Call.{Directive, call}
+use Rattle.specification.specs.Sound.{sound}
+use Rattle.specification.specs.Step.{badCaller, directiveRefusals, effect, encoded}
+use Rattle.manager.specs.declared.answer.Answer.{Answer as CodeAnswer}
+use Rattle.manager.specs.declared.answer.Answer.the-variants.{Successful, Waiting, Refused}
+
+-- an answer of the code
+unfoldable pub answerOf : CodeAnswer → Answer
+answerOf (Successful value woken) = record { status = SUCCESSFUL; value = value; woken = woken }
+answerOf Waiting = record { status = WAITING; value = 0; woken = 0 }
+answerOf (Refused status) = record { status = status; value = 0; woken = 0 }
+
+abbrev pub tables : (queues pool tasks : List ℕ) → Tables
+tables queues pool tasks = record { queues = queues; pool = pool; tasks = tasks }
+
+-- what the code answered, and the tables that it left
+abbrev pub outcomeOf : CodeAnswer → Tables → Outcome Tables
+outcomeOf a t = record { answer = answerOf a; after = t }
+
+-- Tables and a caller that passed the tests 16, 10 and 11.
+pub record Callable (t : Tables) (caller : ℕ) : Type 0 where
+  pub lengths : rightLengths t ≡ true
+  pub isSound : sound (decode t) ≡ true
+  pub ready : badCaller (decode t) caller ≡ false
+
+-- The outcome of a call that passed them.
+abbrev pub accepted : Tables → (caller : ℕ) → Directive → Outcome Tables
+accepted t caller directive = refuseIfAny t (directiveRefusals (decode t) caller directive) (encoded (effect (decode t) (call caller directive)))
+
+-- The status of the first refusal that holds, or 0.
+unfoldable pub firstStatus : List Refusal → ℕ
+firstStatus [] = 0
+firstStatus (r ∷ rs) = if r .holds then r .status else firstStatus rs
+
+-- A state of which the queues alone are known.
+abbrev pub queuesAlone : List ℕ → State
+queuesAlone queues = record { queues = decodeQueues queues; pool = []; tasks = [] }

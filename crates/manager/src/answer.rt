@@ -1,0 +1,6 @@
+// What a call answers: done with value and woken mask, the caller waits, or refused with a status.
+pub enum Answer {
+    Successful(u32, u32),
+    Waiting,
+    Refused(u8),
+}

@@ -1,0 +1,190 @@
+// Create.
+ghost use mathlib.Core.Path.{_≡_};
+ghost use Prim.Native.Nat.{_+_, _*_, _<_, _≤_};
+ghost use lib.ListN.{length};
+ghost use mathlib.Core.Bool.{not};
+ghost use Rattle.ranks.specs.Lists.{within, mapWithIndex, first, sum};
+ghost use Rattle.ranks.specs.Table.{slice};
+ghost use Rattle.records.specs.Bytes.{decodeQueue, decodeQueues};
+ghost use Rattle.specification.specs.Call.{create};
+ghost use Rattle.specification.specs.Create.{isFreeSlot, newQueue, refusals};
+ghost use Rattle.specification.specs.Sound.{limitIn};
+ghost use Rattle.records.specs.Layout.{idOf};
+ghost use Rattle.records.specs.Changes.{atIndex};
+ghost use Rattle.manager.specs.declared.answer.Answer.the-variants.{Successful};
+ghost use Rattle.manager.specs.Outcomes.{tables, outcomeOf, Callable, accepted, firstStatus, queuesAlone};
+use crate::answer::Answer;
+use crate::lookup::id_of;
+use records::queue::QueueRecord;
+use records::queue::read_queue;
+use records::queue::write_queue;
+use records::shares::share_limit;
+use records::shares::share_of_slot;
+use records::shares::share_of_task;
+
+// The slot is free, of the share, and not spent.
+fn is_free_slot(queues: &[u8], share: usize, slot: usize) -> bool
+    requires { ⌜ (length (now queues) ≡ 256) × (slot < 16) ⌝ }
+    ensures { λ r. ⌜ r ≡ isFreeSlot share slot (decodeQueue (slice (slot * 16) 16 (now (queues .entry)))) ⌝ }
+{
+    let q = read_queue(queues, slot);
+    (q.live == 0) & (share_of_slot(slot) == share) & (q.generation < 65535)
+}
+
+// The lowest such slot, or 16.
+fn free_slot(queues: &[u8], share: usize) -> usize
+    requires { ⌜ length (now queues) ≡ 256 ⌝ }
+    ensures { λ r. ⌜ r ≡ first (mapWithIndex (isFreeSlot share) (decodeQueues (now (queues .entry)))) ⌝ }
+{
+    let mut i = 0;
+    while i < 16 {
+        if is_free_slot(queues, share, i) {
+            return i;
+        }
+        i += 1;
+    }
+    i
+}
+
+fn wide(b: u8) -> u32
+    ensures { λ r. ⌜ (r ≡ b) × (r < 256) ⌝ }
+{
+    b as u32
+}
+
+// What the queue in the slot adds to the limits of the share.
+fn limit_in(queues: &[u8], share: usize, slot: usize) -> u32
+    requires { ⌜ (length (now queues) ≡ 256) × (slot < 16) ⌝ }
+    ensures { λ r. ⌜ (r ≡ limitIn share slot (decodeQueue (slice (slot * 16) 16 (now (queues .entry))))) × (r < 256) ⌝ }
+{
+    let q = read_queue(queues, slot);
+    if (share_of_slot(slot) == share) & (q.live == 1) {
+        return wide(q.limit);
+    }
+    0
+}
+
+// The sum of the limits of the share's live queues.
+fn limits(queues: &[u8], share: usize) -> u32
+    requires { ⌜ length (now queues) ≡ 256 ⌝ }
+    ensures { λ r. ⌜ (r ≡ sum (mapWithIndex (limitIn share) (decodeQueues (now (queues .entry))))) × (r ≤ 4096) ⌝ }
+{
+    let mut n = 0;
+    let mut i = 0;
+    while i < 16 {
+        n += limit_in(queues, share, i);
+        i += 1;
+    }
+    n
+}
+
+// A live queue with no message and no waiter.
+fn new_queue(generation: u16, name: u32, limit: u8, size: u8, attributes: u8) -> QueueRecord
+    ensures { λ r. ⌜ r ≡ newQueue generation name limit size attributes ⌝ }
+{
+    QueueRecord {
+        live: 1,
+        attributes,
+        limit,
+        maxSize: size,
+        generation,
+        pending: 0,
+        waiters: 0,
+        name,
+        reserved: [0, 0, 0, 0],
+    }
+}
+
+fn outside(low: u32, high: u32, x: u32) -> bool
+    ensures { λ r. ⌜ r ≡ not (within low high x) ⌝ }
+{
+    !((low <= x) & (x <= high))
+}
+
+// The status of the first refusal, or 0. The slot is the one that create would take.
+fn refusal(
+    queues: &[u8],
+    share: usize,
+    slot: usize,
+    name: u32,
+    limit: u32,
+    size: u32,
+    attributes: u32,
+) -> u8
+    requires { ⌜ (length (now queues) ≡ 256) × ((share < 4) × (slot ≡ first (mapWithIndex (isFreeSlot share) (decodeQueues (now queues))))) ⌝ }
+    ensures { λ r. ⌜ r ≡ firstStatus (refusals (queuesAlone (now (queues .entry))) share name limit size attributes) ⌝ }
+{
+    if name == 0 {
+        return 1;
+    }
+    if 3 < attributes {
+        return 15;
+    }
+    if outside(1, 16, limit) {
+        return 4;
+    }
+    if outside(1, 120, size) {
+        return 3;
+    }
+    if 16 <= slot {
+        return 5;
+    }
+    if share_limit(share) < (limits(queues, share) + limit) as usize {
+        return 6;
+    }
+    0
+}
+
+// The queue is made in the slot.
+fn create_in(
+    queues: &mut [u8],
+    slot: usize,
+    name: u32,
+    limit: u8,
+    size: u8,
+    attributes: u8,
+) -> Answer
+    requires { ⌜ (length (now queues) ≡ 256) × ((slot < 16) × (decodeQueue (slice (slot * 16) 16 (now queues)) .generation < 65535)) ⌝ }
+    ensures { λ r. ⌜ (r ≡ Successful (idOf (decodeQueue (slice (slot * 16) 16 (now (queues .entry))) .generation + 1) slot) 0)
+        × (decodeQueues (now (queues .exit)) ≡ mapWithIndex (atIndex slot (λ q. newQueue (q .generation + 1) name limit size attributes)) (decodeQueues (now (queues .entry)))) ⌝ }
+{
+    let q = read_queue(queues, slot);
+    let generation = q.generation + 1;
+    write_queue(
+        queues,
+        slot,
+        new_queue(generation, name, limit, size, attributes),
+    );
+    Answer::Successful(id_of(generation, slot), 0)
+}
+
+// Create, on sound tables and for a caller that may call.
+pub fn create(
+    queues: &mut [u8],
+    pool: &[u8],
+    tasks: &[u8],
+    caller: usize,
+    name: u32,
+    limit: u32,
+    size: u32,
+    attributes: u32,
+) -> Answer
+    requires { ⌜ Callable (tables (now queues) (now pool) (now tasks)) caller ⌝ }
+    ensures { λ r. ⌜ outcomeOf r (tables (now (queues .exit)) (now (pool .entry)) (now (tasks .entry)))
+        ≡ accepted (tables (now (queues .entry)) (now (pool .entry)) (now (tasks .entry))) caller (create name limit size attributes) ⌝ }
+{
+    let share = share_of_task(caller);
+    let slot = free_slot(queues, share);
+    let status = refusal(queues, share, slot, name, limit, size, attributes);
+    if status != 0 {
+        return Answer::Refused(status);
+    }
+    create_in(
+        queues,
+        slot,
+        name,
+        limit as u8,
+        size as u8,
+        attributes as u8,
+    )
+}

@@ -39,7 +39,8 @@ use Rattle.manager.specs.declared.answer.Answer.the-variants.{Successful
 use Rattle.ranks.proofs.Lists.{holds}
 use Rattle.records.proofs.Access.{queue-at}
 use Rattle.manager.proofs.Searches.{search-found}
-use Rattle.manager.proofs.Outcomes.{Numbered, NoneHolds, none-holds, refused, not-refused}
+use Rattle.specification.proofs.Refused.{None, refuses-none}
+use Rattle.manager.proofs.Outcomes.{Numbered, none-holds, refused}
 
 three : (a b c : Bool) → (a && b && c) ≡ all (a ∷ b ∷ c ∷ [])
 unfolding all
@@ -127,7 +128,7 @@ module _ (t : Tables) (caller name limit maxSize attributes share : ℕ) (own : 
 
   module _ (passed : 0 ≡ firstStatus code-refusals) (slot : ℕ)
       (found : slot ≡ first (mapWithIndex (isFreeSlot share) (decodeQueues (t .queues)))) where
-    none-of-them : NoneHolds code-refusals
+    none-of-them : None code-refusals
     none-of-them = none-holds code-refusals (numbered (queuesAlone (t .queues)) share name limit maxSize attributes) passed
 
     pub in-range : (attributes ≤ 3) × (limit ≤ 16) × (maxSize ≤ 120) × (slot < 16)
@@ -163,7 +164,7 @@ module _ (t : Tables) (caller name limit maxSize attributes share : ℕ) (own : 
     created r queues′ answered written kept =
         both-same
         ∙ ap (λ (i : ℕ). encoded (Create.effect (decode t) i name limit maxSize attributes)) slot-is
-        ∙ sym (not-refused t _ _ (subst NoneHolds same-refusals none-of-them))
+        ∙ sym (refuses-none t _ _ (subst None same-refusals none-of-them))
       where
         value-is : idOf (before .generation + 1) slot ≡ idOf (suc (queueAt (decode t) slot .generation)) slot
         value-is = ap (λ (g : ℕ). idOf g slot) (add-one (before .generation) ∙ ap (λ (q : Queue). suc (q .generation)) (sym (queue-at t slot (in-range .3))))

@@ -16,6 +16,7 @@ use Rattle.manager.specs.Outcomes.{answerOf, tables, outcomeOf, Callable
 use Rattle.manager.specs.declared.answer.Answer.the-variants.{Refused}
 use Rattle.ranks.proofs.Lists.{holds, held}
 use Rattle.records.proofs.EncodeDecode.{lengths, encode-decode}
+use Rattle.specification.proofs.Refused.{None}
 use Rattle.specification.proofs.SoundFacts.{SoundFacts, sound-facts}
 use Rattle.theorems.proofs.FieldsInRange.{decoded-sized}
 use Rattle.theorems.proofs.SoundCall.{ReadyCaller, ready-caller}
@@ -58,12 +59,8 @@ left q p w s same eq ep ew = sym same ∙ ap encode (λ i. record { queues = eq 
 abbrev pub Numbered : List Refusal → Type 0
 Numbered rs = all (map (λ r. leb 1 (r .status)) rs) ≡ true
 
--- no refusal holds, as a product of facts
-abbrev pub NoneHolds : List Refusal → Type 0
-NoneHolds [] = Unit {0}
-NoneHolds (r ∷ rs) = (r .holds ≡ false) × NoneHolds rs
-
-pub none-holds : (rs : List Refusal) → Numbered rs → 0 ≡ firstStatus rs → NoneHolds rs
+-- where the code finds no status, no refusal holds
+pub none-holds : (rs : List Refusal) → Numbered rs → 0 ≡ firstStatus rs → None rs
 unfolding firstStatus all
 none-holds [] k e = tt
 none-holds (r ∷ rs) k e = go (r .holds) refl (none-holds rs (numbers .1))
@@ -71,14 +68,9 @@ none-holds (r ∷ rs) k e = go (r .holds) refl (none-holds rs (numbers .1))
     numbers : (leb 1 (r .status) ≡ true) × Numbered rs
     numbers = let both = holds (leb 1 (r .status) ∷ map (λ x. leb 1 (x .status)) rs) k in (both .0, held (map (λ x. leb 1 (x .status)) rs) (both .1))
 
-    go : (b : Bool) → r .holds ≡ b → (0 ≡ firstStatus rs → NoneHolds rs) → NoneHolds (r ∷ rs)
+    go : (b : Bool) → r .holds ≡ b → (0 ≡ firstStatus rs → None rs) → None (r ∷ rs)
     go true h later = let none : 0 ≡ r .status = e ∙ rw h refl in absurd (omega (arith, none, leb-true 1 (r .status) (numbers .0)))
     go false h later = (h, later (e ∙ rw h refl))
-
-pub not-refused : (t : Tables) (o : Outcome Tables) (rs : List Refusal) → NoneHolds rs → refuseIfAny t rs o ≡ o
-unfolding refuseIfAny
-not-refused t o [] h = refl
-not-refused t o (r ∷ rs) h = rw (h .0) (not-refused t o rs (h .1))
 
 -- the code's status is that of the first refusal
 module _ (t : Tables) (o : Outcome Tables) where

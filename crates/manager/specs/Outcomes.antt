@@ -1,10 +1,11 @@
 -- The code's answers by the paper's numbers, and what the code of a directive promises.
-use Rattle.ranks.specs.Prelude.{ℕ, _≡_, Bool, true, false, List, [], _∷_}
+use Rattle.ranks.specs.Prelude.{ℕ, _≡_, Bool, true, false, _&&_, not, List, [], _∷_, ltb}
 use Rattle.ranks.specs.Lists.{if_then_else_}
-use Rattle.records.specs.Records.{State}
+use Rattle.ranks.specs.Position.{inQueue}
+use Rattle.records.specs.Records.{Task, State}
 use Rattle.records.specs.Bytes.{Tables, decodeQueues, decode, rightLengths}
-use Rattle.records.specs.Status.{SUCCESSFUL, WAITING}
-use Rattle.specification.specs.Answer.{Answer, Outcome, Refusal, refuseIfAny}
+use Rattle.records.specs.Status.{SUCCESSFUL, WAITING, CORRUPT, BAD-CALLER, BAD-SHAPE}
+use Rattle.specification.specs.Answer.{Answer, Outcome, Refusal, refuseIfAny, _⇒_}
 use Rattle.specification.specs.Call.{Directive, call}
 use Rattle.specification.specs.Sound.{sound}
 use Rattle.specification.specs.Step.{badCaller, directiveRefusals, effect, encoded}
@@ -30,6 +31,11 @@ pub record Callable (t : Tables) (caller : ℕ) : Type 0 where
   pub isSound : sound (decode t) ≡ true
   pub ready : badCaller (decode t) caller ≡ false
 
+-- "Order: 16, 10, 11, then as each directive lists."
+abbrev pub callRefusals : Tables → (caller : ℕ) → List Refusal
+callRefusals t caller =
+    (not (rightLengths t) ⇒ BAD-SHAPE) ∷ (not (sound (decode t)) ⇒ CORRUPT) ∷ (badCaller (decode t) caller ⇒ BAD-CALLER) ∷ []
+
 -- The outcome of a call that passed them.
 abbrev pub accepted : Tables → (caller : ℕ) → Directive → Outcome Tables
 accepted t caller directive = refuseIfAny t (directiveRefusals (decode t) caller directive) (encoded (effect (decode t) (call caller directive)))
@@ -42,3 +48,7 @@ firstStatus (r ∷ rs) = if r .holds then r .status else firstStatus rs
 -- A state of which the queues alone are known.
 abbrev pub queuesAlone : List ℕ → State
 queuesAlone queues = record { queues = decodeQueues queues; pool = []; tasks = [] }
+
+-- The rank of a task that waits in the queue of the slot with a greater number than the priority; else the rear.
+abbrev pub rankBehind : (slot priority rear : ℕ) → Task → ℕ
+rankBehind slot priority rear w = if inQueue slot (w .position) && ltb priority (w .priority) then w .position .rank else rear

@@ -1,11 +1,17 @@
 // The message queue manager: nine directives and the clock tick, over three lent tables.
 pub mod answer; // answer.rt: what a call answers
-pub mod clocktick; // clocktick.rt
+pub mod call; // call.rt: the tests that every call makes first
+pub mod clocktick; // clocktick.rt: the clock tick
 pub mod lookup; // lookup.rt: what the directives ask of the tables
 pub mod messages; // messages.rt: messages of a queue
+pub mod msgqbroadcast; // msgqbroadcast.rt: broadcast
 pub mod msgqcreate; // msgqcreate.rt: create
 pub mod msgqdelete; // msgqdelete.rt: delete
 pub mod msgqflush; // msgqflush.rt: flush
 pub mod msgqgetnumberpending; // msgqgetnumberpending.rt: get number pending
 pub mod msgqident; // msgqident.rt: ident
-pub mod waiters; // waiters.rt: tasks that leave a queue
+pub mod msgqreceive; // msgqreceive.rt: receive
+pub mod msgqsend; // msgqsend.rt: send
+pub mod msgqsubmit; // msgqsubmit.rt: what send and urgent share
+pub mod msgqurgent; // msgqurgent.rt: urgent
+pub mod waiters; // waiters.rt: tasks that wait in a queue, and how they leave it

@@ -6,7 +6,8 @@ ghost use mathlib.Core.Bool.{not};
 ghost use Rattle.ranks.specs.Lists.{within, mapWithIndex, first, sum};
 ghost use Rattle.ranks.specs.Table.{slice};
 ghost use Rattle.records.specs.Bytes.{decodeQueue, decodeQueues};
-ghost use Rattle.specification.specs.Call.{create};
+ghost use Rattle.specification.specs.Call.{call, create};
+ghost use Rattle.specification.specs.Step.{step};
 ghost use Rattle.specification.specs.Create.{isFreeSlot, newQueue, refusals};
 ghost use Rattle.specification.specs.Sound.{limitIn};
 ghost use Rattle.records.specs.Layout.{idOf};
@@ -14,6 +15,7 @@ ghost use Rattle.records.specs.Changes.{atIndex};
 ghost use Rattle.manager.specs.declared.answer.Answer.the-variants.{Successful};
 ghost use Rattle.manager.specs.Outcomes.{tables, outcomeOf, Callable, accepted, firstStatus, queuesAlone};
 use crate::answer::Answer;
+use crate::call::call_refusal;
 use crate::lookup::id_of;
 use records::queue::QueueRecord;
 use records::queue::read_queue;
@@ -159,7 +161,7 @@ fn create_in(
 }
 
 // Create, on sound tables and for a caller that may call.
-pub fn create(
+fn create(
     queues: &mut [u8],
     pool: &[u8],
     tasks: &[u8],
@@ -186,5 +188,34 @@ pub fn create(
         limit as u8,
         size as u8,
         attributes as u8,
+    )
+}
+
+pub fn message_queue_create(
+    queues: &mut [u8],
+    pool: &[u8],
+    tasks: &[u8],
+    caller: u32,
+    name: u32,
+    limit: u32,
+    size: u32,
+    attributes: u32,
+) -> Answer
+    ensures { λ r. ⌜ outcomeOf r (tables (now (queues .exit)) (now (pool .entry)) (now (tasks .entry)))
+        ≡ step (tables (now (queues .entry)) (now (pool .entry)) (now (tasks .entry))) (call caller (create name limit size attributes)) ⌝ }
+{
+    let status = call_refusal(queues, pool, tasks, caller);
+    if status != 0 {
+        return Answer::Refused(status);
+    }
+    create(
+        queues,
+        pool,
+        tasks,
+        caller as usize,
+        name,
+        limit,
+        size,
+        attributes,
     )
 }

@@ -6,9 +6,11 @@ ghost use Rattle.ranks.specs.Lists.{mapWithIndex};
 ghost use Rattle.records.specs.Records.{freeQueue};
 ghost use Rattle.records.specs.Bytes.{decodeQueues};
 ghost use Rattle.records.specs.Changes.{atIndex};
-ghost use Rattle.specification.specs.Call.{onQueue, delete};
+ghost use Rattle.specification.specs.Call.{call, onQueue, delete};
+ghost use Rattle.specification.specs.Step.{step};
 ghost use Rattle.manager.specs.Outcomes.{tables, outcomeOf, Callable, accepted};
 use crate::answer::Answer;
+use crate::call::call_refusal;
 use crate::lookup::is_foreign;
 use crate::lookup::usable;
 use crate::messages::clear_messages;
@@ -45,13 +47,7 @@ fn free_slot(queues: &mut [u8], slot: usize)
 }
 
 // Delete, on sound tables and for a caller that may call.
-pub fn delete(
-    queues: &mut [u8],
-    pool: &mut [u8],
-    tasks: &mut [u8],
-    caller: usize,
-    id: u32,
-) -> Answer
+fn delete(queues: &mut [u8], pool: &mut [u8], tasks: &mut [u8], caller: usize, id: u32) -> Answer
     requires { ⌜ Callable (tables (now queues) (now pool) (now tasks)) caller ⌝ }
     ensures { λ r. ⌜ outcomeOf r (tables (now (queues .exit)) (now (pool .exit)) (now (tasks .exit)))
         ≡ accepted (tables (now (queues .entry)) (now (pool .entry)) (now (tasks .entry))) caller (onQueue id delete) ⌝ }
@@ -69,4 +65,21 @@ pub fn delete(
     clear_messages(pool, slot);
     free_slot(queues, slot);
     Answer::Successful(0, woken)
+}
+
+pub fn message_queue_delete(
+    queues: &mut [u8],
+    pool: &mut [u8],
+    tasks: &mut [u8],
+    caller: u32,
+    id: u32,
+) -> Answer
+    ensures { λ r. ⌜ outcomeOf r (tables (now (queues .exit)) (now (pool .exit)) (now (tasks .exit)))
+        ≡ step (tables (now (queues .entry)) (now (pool .entry)) (now (tasks .entry))) (call caller (onQueue id delete)) ⌝ }
+{
+    let status = call_refusal(queues, pool, tasks, caller);
+    if status != 0 {
+        return Answer::Refused(status);
+    }
+    delete(queues, pool, tasks, caller as usize, id)
 }

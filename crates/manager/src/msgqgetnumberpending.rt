@@ -1,19 +1,15 @@
 // Get number pending.
 ghost use mathlib.Core.Path.{_≡_};
-ghost use Rattle.specification.specs.Call.{onQueue, getNumberPending};
+ghost use Rattle.specification.specs.Call.{call, onQueue, getNumberPending};
+ghost use Rattle.specification.specs.Step.{step};
 ghost use Rattle.manager.specs.Outcomes.{tables, outcomeOf, Callable, accepted};
 use crate::answer::Answer;
+use crate::call::call_refusal;
 use crate::lookup::usable;
 use records::queue::read_queue;
 
 // Get number pending, on sound tables and for a caller that may call.
-pub fn get_number_pending(
-    queues: &[u8],
-    pool: &[u8],
-    tasks: &[u8],
-    caller: usize,
-    id: u32,
-) -> Answer
+fn get_number_pending(queues: &[u8], pool: &[u8], tasks: &[u8], caller: usize, id: u32) -> Answer
     requires { ⌜ Callable (tables (now queues) (now pool) (now tasks)) caller ⌝ }
     ensures { λ r. ⌜ outcomeOf r (tables (now (queues .entry)) (now (pool .entry)) (now (tasks .entry)))
         ≡ accepted (tables (now (queues .entry)) (now (pool .entry)) (now (tasks .entry))) caller (onQueue id getNumberPending) ⌝ }
@@ -23,4 +19,21 @@ pub fn get_number_pending(
         return Answer::Refused(2);
     }
     Answer::Successful(q.pending as u32, 0)
+}
+
+pub fn message_queue_get_number_pending(
+    queues: &[u8],
+    pool: &[u8],
+    tasks: &[u8],
+    caller: u32,
+    id: u32,
+) -> Answer
+    ensures { λ r. ⌜ outcomeOf r (tables (now (queues .entry)) (now (pool .entry)) (now (tasks .entry)))
+        ≡ step (tables (now (queues .entry)) (now (pool .entry)) (now (tasks .entry))) (call caller (onQueue id getNumberPending)) ⌝ }
+{
+    let status = call_refusal(queues, pool, tasks, caller);
+    if status != 0 {
+        return Answer::Refused(status);
+    }
+    get_number_pending(queues, pool, tasks, caller as usize, id)
 }

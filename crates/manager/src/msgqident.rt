@@ -5,10 +5,12 @@ ghost use lib.ListN.{length};
 ghost use Rattle.ranks.specs.Lists.{mapWithIndex, first};
 ghost use Rattle.ranks.specs.Table.{slice};
 ghost use Rattle.records.specs.Bytes.{decodeQueue, decodeQueues};
-ghost use Rattle.specification.specs.Call.{ident};
+ghost use Rattle.specification.specs.Call.{call, ident};
+ghost use Rattle.specification.specs.Step.{step};
 ghost use Rattle.specification.specs.Ident.{isNamed};
 ghost use Rattle.manager.specs.Outcomes.{tables, outcomeOf, Callable, accepted};
 use crate::answer::Answer;
+use crate::call::call_refusal;
 use crate::lookup::id_of;
 use crate::lookup::is_open;
 use records::queue::read_queue;
@@ -43,14 +45,7 @@ fn named(queues: &[u8], caller: usize, name: u32, share: usize) -> usize
 }
 
 // Ident, on sound tables and for a caller that may call.
-pub fn ident(
-    queues: &[u8],
-    pool: &[u8],
-    tasks: &[u8],
-    caller: usize,
-    name: u32,
-    share: u32,
-) -> Answer
+fn ident(queues: &[u8], pool: &[u8], tasks: &[u8], caller: usize, name: u32, share: u32) -> Answer
     requires { ⌜ Callable (tables (now queues) (now pool) (now tasks)) caller ⌝ }
     ensures { λ r. ⌜ outcomeOf r (tables (now (queues .entry)) (now (pool .entry)) (now (tasks .entry)))
         ≡ accepted (tables (now (queues .entry)) (now (pool .entry)) (now (tasks .entry))) caller (ident name share) ⌝ }
@@ -67,4 +62,22 @@ pub fn ident(
     }
     let q = read_queue(queues, slot);
     Answer::Successful(id_of(q.generation, slot), 0)
+}
+
+pub fn message_queue_ident(
+    queues: &[u8],
+    pool: &[u8],
+    tasks: &[u8],
+    caller: u32,
+    name: u32,
+    share: u32,
+) -> Answer
+    ensures { λ r. ⌜ outcomeOf r (tables (now (queues .entry)) (now (pool .entry)) (now (tasks .entry)))
+        ≡ step (tables (now (queues .entry)) (now (pool .entry)) (now (tasks .entry))) (call caller (ident name share)) ⌝ }
+{
+    let status = call_refusal(queues, pool, tasks, caller);
+    if status != 0 {
+        return Answer::Refused(status);
+    }
+    ident(queues, pool, tasks, caller as usize, name, share)
 }

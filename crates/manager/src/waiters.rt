@@ -15,7 +15,7 @@ use records::task::deliver;
 use records::task::read_head;
 use records::task::write_head;
 
-fn less_one(n: u8) -> u8
+pub fn less_one(n: u8) -> u8
     ensures { λ r. ⌜ r ≡ n - 1 ⌝ }
 {
     if n == 0 { 0 } else { n - 1 }

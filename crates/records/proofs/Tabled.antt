@@ -1,30 +1,59 @@
--- A constant table of a function's values gives the function. Assumes nothing.
-use Prim.Native.Nat.{ℕ, _+_, _<_}
+-- A constant table of a function's values gives the function, and a test that is computed at each number holds. Assumes nothing.
+use Prim.Native.Nat.{ℕ, _+_, _≤_, _<_}
 use native.Mathlib.Nat.{zero-add}
 use native.Mathlib.Omega.{arith}
-use mathlib.Core.Path.{_≡_, refl, sym, ap, _∙_}
-use mathlib.Core.Bool.{true, false}
+use mathlib.Core.Path.{_≡_, refl, sym, ap, subst, _∙_}
+use mathlib.Core.Bool.{Bool, true, false, _&&_, not}
 use mathlib.Core.List.{List, map}
-use lib.Dec.{ltb}
-use lib.ListN.{length, getD, length-map}
-use borrow.Author.Tests.{ltb-true}
-use Rattle.ranks.specs.Lists.{range, all, first}
-use Rattle.records.specs.Split
-use Rattle.records.specs.Split.{shareOfTask}
-use Rattle.ranks.proofs.Lists.{length-range, at-range, all-at}
+use lib.Dec.{eqb, leb, ltb}
+use lib.ListN.{getD}
+use borrow.Author.Tests.{leb-true, ltb-true}
+use Rattle.ranks.specs.Lists.{if_then_else_, all, every, first, mapFromIndex, mapWithIndex, range}
+use Rattle.ranks.proofs.Lists.{every-at, length-range, at-range}
+use Rattle.records.specs.Split.{split, shareOfSlot, shareOfBuffer, shareOfTask, firstBuffer, shareLimit}
 use Rattle.records.proofs.Access.{at-map}
 
 pub tabled : (f : ℕ → ℕ) (n : ℕ) (table : List ℕ) → map f (range 0 n) ≡ table → (i d : ℕ) → i < n → getD table i d ≡ f i
 tabled f n table e i d h =
     ap (λ (l : List ℕ). getD l i d) (sym e) ∙ at-map f (range 0 n) i 0 d (omega (arith, length-range 0 n)) ∙ ap f (at-range 0 n i 0 h ∙ zero-add i)
 
--- each value of the function is below the bound
-pub below : (f : ℕ → ℕ) (n m : ℕ) → all (map (λ i. ltb (f i) m) (range 0 n)) ≡ true → (i : ℕ) → i < n → f i < m
-below f n m e i h =
-    let tested : getD (map (λ j. ltb (f j) m) (range 0 n)) i false ≡ ltb (f i) m =
-    at-map (λ j. ltb (f j) m) (range 0 n) i 0 false (omega (arith, length-range 0 n)) ∙ ap (λ (j : ℕ). ltb (f j) m) (at-range 0 n i 0 h ∙ zero-add i) in
-    ltb-true (f i) m (sym tested ∙ all-at (map (λ j. ltb (f j) m) (range 0 n)) e i (omega (arith, length-map (range 0 n) (λ j. ltb (f j) m), length-range 0 n)))
+computed : (f : ℕ → Bool) (n : ℕ) → every (λ _ i. f i) (range 0 n) ≡ true → (i : ℕ) → i < n → f i ≡ true
+computed f n e i h =
+    subst (λ (k : ℕ). f k ≡ true) (at-range 0 n i 0 h ∙ zero-add i) (every-at (λ _ i. f i) (range 0 n) 0 e i (omega (arith, length-range 0 n)))
+
+-- ---- The split into shares
+
+pub slot-share-below : (slot : ℕ) → slot < 16 → shareOfSlot slot < 4
+unfolding all mapFromIndex mapWithIndex range first split shareOfSlot
+slot-share-below slot h = ltb-true _ _ (computed (λ i. ltb (shareOfSlot i) 4) 16 refl slot h)
 
 pub task-share-below : (t : ℕ) → t < 32 → shareOfTask t < 4
-unfolding all range first Split.split shareOfTask
-task-share-below t h = below shareOfTask 32 4 refl t h
+unfolding all mapFromIndex mapWithIndex range first split shareOfTask
+task-share-below t h = ltb-true _ _ (computed (λ i. ltb (shareOfTask i) 4) 32 refl t h)
+
+pub buffers-end : (share : ℕ) → share < 4 → firstBuffer share + shareLimit share ≤ 64
+unfolding all mapFromIndex mapWithIndex range split firstBuffer shareLimit
+buffers-end share h = leb-true _ _ (computed (λ p. leb (firstBuffer p + shareLimit p) 64) 4 refl share h)
+
+-- a share's buffers are those from its first on
+abbrev inside : (share b : ℕ) → Bool
+inside share b = leb (firstBuffer share) b && ltb b (firstBuffer share + shareLimit share)
+
+same : Bool → Bool → Bool
+same x y = if x then y else not y
+
+all-same : every (λ _ p. every (λ _ b. same (inside p b) (eqb p (shareOfBuffer b))) (range 0 64)) (range 0 4) ≡ true
+unfolding all mapFromIndex mapWithIndex range first split shareOfBuffer firstBuffer shareLimit same
+all-same = refl
+
+pub share-buffers : (share b : ℕ) → share < 4 → b < 64 → (leb (firstBuffer share) b && ltb b (firstBuffer share + shareLimit share)) ≡ eqb share (shareOfBuffer b)
+unfolding same
+share-buffers share b h k =
+    are-same (inside share b) (eqb share (shareOfBuffer b))
+    (computed (λ b. same (inside share b) (eqb share (shareOfBuffer b))) 64
+    (computed (λ p. every (λ _ b. same (inside p b) (eqb p (shareOfBuffer b))) (range 0 64)) 4 all-same share h) b k)
+  where
+    are-same : (x y : Bool) → same x y ≡ true → x ≡ y
+    are-same true y e = sym e
+    are-same false true e = e
+    are-same false false e = refl

@@ -17,6 +17,12 @@ fn wide32(b: u8) -> u32
     b as u32
 }
 
+pub fn wide(b: u8) -> usize
+    ensures { λ r. ⌜ (r ≡ b) × (r < 256) ⌝ }
+{
+    b as usize
+}
+
 // The number in two bytes from place at on.
 pub fn read_u16(t: &[u8], at: usize) -> u16
     requires { ⌜ at + 2 ≤ length (now t) ⌝ }

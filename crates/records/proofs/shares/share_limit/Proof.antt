@@ -1,20 +1,21 @@
+-- `records::shares::share_limit` meets its contract. Assumes nothing.
 use borrow.Author.Needs.{needs}
-use mathlib.Core.Path.{refl}
+use mathlib.Core.Path.{refl, _∙_}
 use Rattle.ranks.specs.Lists
 use Rattle.records.specs.Split
 use Rattle.records.proofs.Tabled.{tabled}
 use Rattle.records.proofs.shares.share_limit.Statement.{statement}
 use Rattle.records.proofs.shares.share_limit.Tie as tie
 
-mul-result : tie.Need-mul-result
-mul-result c = search needs
+array-read-wide : tie.Need-array-read-wide
+array-read-wide c = search needs
 
-array-read-result : tie.Need-array-read-result
-array-read-result c = search needs
+wide-requires : tie.Need-wide-requires
+wide-requires c κs = search needs
 
 returns : tie.Need-returns
 unfolding Lists.range Split.split Split.shareLimit
-returns c = tabled Split.shareLimit 4 _ refl (c .args .share) 0 (c .pre)
+returns c = c .wide .ensures .0 ∙ tabled Split.shareLimit 4 _ refl (c .before .args .share) 0 (c .before .pre)
 
 pub share-limit-spec : {M : Type 1} → statement M
-share-limit-spec = tie.close (tie.spec mul-result array-read-result returns)
+share-limit-spec = tie.close (tie.spec array-read-wide wide-requires returns)

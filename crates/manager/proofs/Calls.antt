@@ -1,0 +1,107 @@
+-- A call is refused by the tests 16, 10 and 11, or does what its directive does. Assumes nothing.
+use Prim.Native.Nat.{ℕ, _*_, _≤_, _<_}
+use mathlib.Core.Path.{_≡_, refl, sym, ap, _∙_}
+use mathlib.Core.Bool.{Bool, true, false, not}
+use mathlib.Core.List.{List, [], _∷_, _++_}
+use lib.Dec.{eqb}
+use lib.ListN.{length}
+use borrow.Author.Tests.{le-leb, lt-leb, not-false}
+use Rattle.ranks.specs.Lists.{all}
+use Rattle.ranks.specs.Table.{slice}
+use Rattle.records.specs.Records.{Task, isWaiting}
+use Rattle.records.specs.Bytes.{Tables, decodeTask, decode, rightLengths}
+use Rattle.specification.specs.Answer.{Outcome, Refusal, refuseIfAny}
+use Rattle.specification.specs.Call.{Directive, call, tick}
+use Rattle.specification.specs.Sound.{sound}
+use Rattle.specification.specs.Step.{badCaller, commonRefusals, ownRefusals, refusals, step, effect, encoded}
+use Rattle.manager.specs.Outcomes.{answerOf, outcomeOf, Callable, callRefusals, accepted, firstStatus}
+use Rattle.manager.specs.declared.answer.Answer.the-variants.{Refused}
+use Rattle.records.proofs.Access.{task-at}
+use Rattle.specification.proofs.Refused.{None}
+use Rattle.manager.proofs.Outcomes.{Numbered, none-holds, refused}
+
+-- the first refusal of two lists
+first-of-both : (rs rs′ : List Refusal) → (firstStatus rs ≡ 0 → ⊥) → firstStatus rs ≡ firstStatus (rs ++ rs′)
+unfolding firstStatus
+first-of-both [] rs′ ne = absurd (ne refl)
+first-of-both (r ∷ rs) rs′ ne = go (r .holds) refl (first-of-both rs rs′)
+  where
+    go : (b : Bool) → r .holds ≡ b → ((firstStatus rs ≡ 0 → ⊥) → firstStatus rs ≡ firstStatus (rs ++ rs′)) → firstStatus (r ∷ rs) ≡ firstStatus (r ∷ rs ++ rs′)
+    go true h later = rw h
+    go false h later = rw h (later (λ z. ne (rw h z)))
+
+-- where none of the first list holds, the second decides
+second-decides : (t : Tables) (rs rs′ : List Refusal) (o : Outcome Tables) → None rs → refuseIfAny t (rs ++ rs′) o ≡ refuseIfAny t rs′ o
+unfolding refuseIfAny
+second-decides t [] rs′ o none = refl
+second-decides t (r ∷ rs) rs′ o none = rw (none .0) (second-decides t rs rs′ o (none .1))
+
+module _ (t : Tables) (caller : ℕ) where
+  abbrev First : ℕ → Type 0
+  First n = n ≡ firstStatus (callRefusals t caller)
+
+  pub bad-shape : rightLengths t ≡ false → First 16
+  unfolding firstStatus
+  bad-shape e = rw e
+
+  module _ (shaped : rightLengths t ≡ true) where
+    pub corrupt : sound (decode t) ≡ false → First 10
+    unfolding firstStatus
+    corrupt e = rw (shaped, e)
+
+    module _ (is-sound : sound (decode t) ≡ true) where
+      pub bad-caller : badCaller (decode t) caller ≡ true → First 11
+      unfolding firstStatus
+      bad-caller e = rw (shaped, is-sound, e)
+
+      pub none : badCaller (decode t) caller ≡ false → First 0
+      unfolding firstStatus
+      none e = rw (shaped, is-sound, e)
+
+  -- the test 11, as the code makes it
+  pub no-task : 32 ≤ caller → true ≡ badCaller (decode t) caller
+  unfolding badCaller
+  no-task h = rw (le-leb 32 caller h)
+
+  pub waits : caller < 32 → (state : ℕ) → state ≡ decodeTask (slice (caller * 136) 136 (t .tasks)) .state → eqb state 1 ≡ badCaller (decode t) caller
+  unfolding badCaller
+  waits h state e = rw (lt-leb 32 caller h) (ap (λ (n : ℕ). eqb n 1) (e ∙ ap (λ (w : Task). w .state) (sym (task-at t caller h))))
+
+  module _ (directive : Directive) where
+    both-lists : refusals t (call caller directive) ≡ callRefusals t caller ++ ownRefusals (decode t) (call caller directive)
+    unfolding refusals commonRefusals
+    both-lists = refl
+
+    pub refused-call : (n : ℕ) → First n → (n ≡ 0 → ⊥) → outcomeOf (Refused n) t ≡ step t (call caller directive)
+    unfolding step refusals commonRefusals
+    refused-call n e ne =
+        refused t _ (callRefusals t caller ++ ownRefusals (decode t) (call caller directive)) n
+        (e ∙ first-of-both (callRefusals t caller) (ownRefusals (decode t) (call caller directive)) (λ z. ne (e ∙ z))) ne
+
+  module _ (passed : First 0) where
+    none-of-them : None (callRefusals t caller)
+    unfolding all
+    none-of-them = none-holds (callRefusals t caller) refl passed
+
+    pub callable : Callable t caller
+    callable = record { lengths = not-false _ (none-of-them .0); isSound = not-false _ (none-of-them .1 .0); ready = none-of-them .1 .1 .0 }
+
+    pub accepted-call : (directive : Directive) → accepted t caller directive ≡ step t (call caller directive)
+    unfolding step refusals commonRefusals ownRefusals
+    accepted-call directive = sym (second-decides t (callRefusals t caller) _ _ none-of-them)
+
+-- ---- "A tick has no caller."
+
+module _ (t : Tables) where
+  pub tick-bad-shape : rightLengths t ≡ false → outcomeOf (Refused 16) t ≡ step t tick
+  unfolding answerOf step refusals commonRefusals ownRefusals refuseIfAny
+  tick-bad-shape e = rw e
+
+  module _ (shaped : rightLengths t ≡ true) where
+    pub tick-corrupt : sound (decode t) ≡ false → outcomeOf (Refused 10) t ≡ step t tick
+    unfolding answerOf step refusals commonRefusals ownRefusals refuseIfAny
+    tick-corrupt e = rw (shaped, e)
+
+    pub tick-accepted : sound (decode t) ≡ true → encoded (effect (decode t) tick) ≡ step t tick
+    unfolding step refusals commonRefusals ownRefusals refuseIfAny
+    tick-accepted e = rw (shaped, e)

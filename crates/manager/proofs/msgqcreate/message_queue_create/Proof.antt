@@ -1,0 +1,37 @@
+-- `manager::msgqcreate::message_queue_create` meets its contract. Assumes nothing.
+use mathlib.Core.Path.{sym, _∙_}
+use Rattle.specification.specs.Call.{create}
+use Rattle.manager.specs.Outcomes.{tables}
+use Rattle.manager.proofs.Calls.{refused-call, callable, accepted-call}
+use borrow.Author.Needs.{needs}
+use Rattle.manager.proofs.msgqcreate.message_queue_create.Statement.{statement}
+use Rattle.manager.proofs.msgqcreate.message_queue_create.Tie as tie
+
+call-refusal-requires : tie.Need-call-refusal-requires
+call-refusal-requires c κs = search needs
+
+same-length : tie.Need-same-length
+same-length c = search needs
+
+returns : tie.Need-returns
+returns c =
+    let a = c .before .before .before .before .before .before .args in
+    refused-call (tables (a .queues .now) (a .pool .now) (a .tasks .now)) (a .caller) (create (a .name) (a .limit) (a .size) (a .attributes)) _ (c .before .call-refusal .ensures) (c .if1 .taken)
+
+create-requires : tie.Need-create-requires
+create-requires c κs =
+    let a = c .before .before .before .before .before .before .before .args in
+    callable (tables (a .queues .now) (a .pool .now) (a .tasks .now)) (a .caller) (sym (c .before .if1 .left) ∙ c .before .before .call-refusal .ensures)
+
+same-length-2 : tie.Need-same-length-2
+same-length-2 c = search needs
+
+returns-2 : tie.Need-returns-2
+returns-2 c =
+    let a = c .before .before .before .before .before .before .before .before .before .before .args in
+    c .before .before .create .ensures ∙ accepted-call (tables (a .queues .now) (a .pool .now) (a .tasks .now)) (a .caller) (sym (c .before .before .before .before .if1 .left) ∙ c .before .before .before .before .before .call-refusal .ensures) (create (a .name) (a .limit) (a .size) (a .attributes))
+
+pub message-queue-create-spec : {M : Type 1} → statement M
+message-queue-create-spec =
+    tie.close
+    (tie.spec call-refusal-requires same-length returns create-requires same-length-2 returns-2)

@@ -1,0 +1,35 @@
+-- `manager::msgqsubmit::is_free` meets its contract. Assumes nothing.
+use Prim.Native.Nat.{ℕ, _*_}
+use mathlib.Core.Path.{sym, ap, ap₂, _∙_}
+use mathlib.Core.Bool.{Bool, _&&_}
+use native.Mathlib.Nat.{add-zero}
+use native.Mathlib.Omega.{arith}
+use lib.Dec.{eqb}
+use Rattle.ranks.specs.Table.{byte}
+use Rattle.ranks.proofs.Table.{byte-slice}
+use Rattle.records.specs.Bytes.{decodeBuffer}
+use borrow.Author.Needs.{needs}
+use Rattle.manager.proofs.msgqsubmit.is_free.Statement.{statement}
+use Rattle.manager.proofs.msgqsubmit.is_free.Tie as tie
+
+mul-result : tie.Need-mul-result
+mul-result c = search needs
+
+shared-slice-read-result : tie.Need-shared-slice-read-result
+shared-slice-read-result c = search needs
+
+share-of-buffer-requires : tie.Need-share-of-buffer-requires
+share-of-buffer-requires c κs = search needs
+
+returns : tie.Need-returns
+unfolding decodeBuffer
+returns c =
+    let a = c .before .before .before .args in
+    let at = a .b * 128 in
+    ap₂ {C = Bool} _&&_
+    (ap (λ (n : ℕ). eqb n 0) (ap (λ (k : ℕ). byte k (a .pool .now)) (sym (add-zero at)) ∙ sym (byte-slice at 128 (a .pool .now) 0 (omega arith))))
+    (ap (λ (n : ℕ). eqb n (a .share)) (c .share-of-buffer .ensures))
+
+pub is-free-spec : {M : Type 1} → statement M
+is-free-spec =
+    tie.close (tie.spec mul-result shared-slice-read-result share-of-buffer-requires returns)

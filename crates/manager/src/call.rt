@@ -1,0 +1,42 @@
+// The tests that every call makes first.
+ghost use mathlib.Core.Path.{_≡_};
+ghost use lib.ListN.{length};
+ghost use Rattle.records.specs.Bytes.{decode, rightLengths};
+ghost use Rattle.specification.specs.Step.{badCaller};
+ghost use Rattle.manager.specs.Outcomes.{tables, callRefusals, firstStatus};
+use records::task::read_head;
+use soundness::search::is_sound;
+
+pub fn right_lengths(queues: &[u8], pool: &[u8], tasks: &[u8]) -> bool
+    ensures { λ r. ⌜ r ≡ rightLengths (tables (now (queues .entry)) (now (pool .entry)) (now (tasks .entry))) ⌝ }
+{
+    (queues.len() == 256) & (pool.len() == 8192) & (tasks.len() == 4352)
+}
+
+// "caller above 31, or waiting"
+fn bad_caller(queues: &[u8], pool: &[u8], tasks: &[u8], caller: u32) -> bool
+    requires { ⌜ length (now tasks) ≡ 4352 ⌝ }
+    ensures { λ r. ⌜ r ≡ badCaller (decode (tables (now (queues .entry)) (now (pool .entry)) (now (tasks .entry)))) caller ⌝ }
+{
+    if 32 <= caller {
+        return true;
+    }
+    let h = read_head(tasks, caller as usize);
+    h.state == 1
+}
+
+// The status of the first of these tests that refuses the call, or 0. "Order: 16, 10, 11, then as each directive lists."
+pub fn call_refusal(queues: &[u8], pool: &[u8], tasks: &[u8], caller: u32) -> u8
+    ensures { λ r. ⌜ r ≡ firstStatus (callRefusals (tables (now (queues .entry)) (now (pool .entry)) (now (tasks .entry))) caller) ⌝ }
+{
+    if !right_lengths(queues, pool, tasks) {
+        return 16;
+    }
+    if !is_sound(queues, pool, tasks) {
+        return 10;
+    }
+    if bad_caller(queues, pool, tasks, caller) {
+        return 11;
+    }
+    0
+}

@@ -1,0 +1,5 @@
+pub mod Cases
+pub mod Orders
+pub mod Ranks
+pub mod Searched
+pub mod Whole

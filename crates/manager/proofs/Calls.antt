@@ -1,24 +1,23 @@
 -- A call is refused by the tests 16, 10 and 11, or does what its directive does. Assumes nothing.
 use Prim.Native.Nat.{ℕ, _*_, _≤_, _<_}
 use mathlib.Core.Path.{_≡_, refl, sym, ap, _∙_}
-use mathlib.Core.Bool.{Bool, true, false, not}
+use mathlib.Core.Bool.{Bool, true, false}
 use mathlib.Core.List.{List, [], _∷_, _++_}
 use lib.Dec.{eqb}
-use lib.ListN.{length}
 use borrow.Author.Tests.{le-leb, lt-leb, not-false}
 use Rattle.ranks.specs.Lists.{all}
 use Rattle.ranks.specs.Table.{slice}
-use Rattle.records.specs.Records.{Task, isWaiting}
+use Rattle.records.specs.Records.{Task}
 use Rattle.records.specs.Bytes.{Tables, decodeTask, decode, rightLengths}
-use Rattle.specification.specs.Answer.{Outcome, Refusal, refuseIfAny}
+use Rattle.records.proofs.Access.{task-at}
+use Rattle.specification.specs.Answer.{Outcome, Refusal, refuseIfAny, firstStatus}
 use Rattle.specification.specs.Call.{Directive, call, tick}
 use Rattle.specification.specs.Sound.{sound}
 use Rattle.specification.specs.Step.{badCaller, commonRefusals, ownRefusals, refusals, step, effect, encoded}
-use Rattle.manager.specs.Outcomes.{answerOf, outcomeOf, Callable, callRefusals, accepted, firstStatus}
+use Rattle.specification.proofs.Refused.{None, none-holds}
+use Rattle.manager.specs.Outcomes.{answerOf, outcomeOf, Callable, callRefusals, accepted}
 use Rattle.manager.specs.declared.answer.Answer.the-variants.{Refused}
-use Rattle.records.proofs.Access.{task-at}
-use Rattle.specification.proofs.Refused.{None}
-use Rattle.manager.proofs.Outcomes.{Numbered, none-holds, refused}
+use Rattle.manager.proofs.Outcomes.{refused}
 
 -- the first refusal of two lists
 first-of-both : (rs rs′ : List Refusal) → (firstStatus rs ≡ 0 → ⊥) → firstStatus rs ≡ firstStatus (rs ++ rs′)
@@ -39,24 +38,6 @@ second-decides t (r ∷ rs) rs′ o none = rw (none .0) (second-decides t rs rs�
 module _ (t : Tables) (caller : ℕ) where
   abbrev First : ℕ → Type 0
   First n = n ≡ firstStatus (callRefusals t caller)
-
-  pub bad-shape : rightLengths t ≡ false → First 16
-  unfolding firstStatus
-  bad-shape e = rw e
-
-  module _ (shaped : rightLengths t ≡ true) where
-    pub corrupt : sound (decode t) ≡ false → First 10
-    unfolding firstStatus
-    corrupt e = rw (shaped, e)
-
-    module _ (is-sound : sound (decode t) ≡ true) where
-      pub bad-caller : badCaller (decode t) caller ≡ true → First 11
-      unfolding firstStatus
-      bad-caller e = rw (shaped, is-sound, e)
-
-      pub none : badCaller (decode t) caller ≡ false → First 0
-      unfolding firstStatus
-      none e = rw (shaped, is-sound, e)
 
   -- the test 11, as the code makes it
   pub no-task : 32 ≤ caller → true ≡ badCaller (decode t) caller

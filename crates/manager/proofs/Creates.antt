@@ -1,46 +1,34 @@
 -- Create by its cases, as the code goes through them. Assumes nothing.
 use Prim.Native.Nat.{ℕ, suc, _+_, _*_, _≤_, _<_}
-use mathlib.Core.Path.{_≡_, refl, sym, ap, _∙_}
-use mathlib.Core.Bool.{Bool, true, false, _&&_}
+use native.Mathlib.Numerals.{add-one}
+use mathlib.Core.Path.{_≡_, refl, sym, ap, _∙_, subst}
+use mathlib.Core.Bool.{Bool, true, false, _&&_, not}
 use mathlib.Core.List.{List, [], _∷_}
 use lib.Dec.{eqb, leb, ltb}
-use Rattle.ranks.specs.Lists.{all}
-use Rattle.records.specs.Split.{shareOfSlot}
-use Rattle.records.specs.Records.{Queue}
-use Rattle.specification.specs.Create.{isFreeSlot}
-use Rattle.specification.specs.Sound.{limitIn}
-use native.Mathlib.Numerals.{add-one}
-use mathlib.Core.Bool.{not}
-use borrow.Author.Tests.{eq-eqb, ne-eqb, lt-ltb, le-ltb, le-leb, lt-leb, ltb-true, leb-true, not-false}
-use Rattle.ranks.specs.Lists.{within}
-use Rattle.records.specs.Split.{shareLimit}
-use Rattle.records.specs.Records.{State}
-use Rattle.specification.specs.Create.{freeSlot, refusals}
-use Rattle.specification.specs.Sound.{limits}
-use Rattle.manager.specs.Outcomes.{firstStatus}
-use Rattle.ranks.proofs.Tests.{both}
-use mathlib.Core.Path.{subst}
-use borrow.Author.Tests.{ltb-false, leb-false}
-use Rattle.ranks.specs.Lists.{first, mapWithIndex}
+use borrow.Author.Tests.{ltb-true, leb-true, not-false, ltb-false, leb-false}
+use Rattle.ranks.specs.Lists.{all, within, first, mapWithIndex}
 use Rattle.ranks.specs.Table.{slice}
+use Rattle.ranks.proofs.Tests.{both}
+use Rattle.ranks.proofs.Lists.{holds}
+use Rattle.records.specs.Split.{shareOfSlot, shareOfTask}
+use Rattle.records.specs.Records.{Queue, State, queueAt, freeQueue}
 use Rattle.records.specs.Layout.{idOf}
-use Rattle.records.specs.Split.{shareOfTask}
-use Rattle.records.specs.Records.{queueAt, freeQueue}
 use Rattle.records.specs.Bytes.{Tables, decodeQueue, decodeQueues, decode, encode}
 use Rattle.records.specs.Changes.{atIndex}
-use Rattle.specification.specs.Answer.{Refusal}
+use Rattle.records.proofs.Access.{queue-at}
+use Rattle.specification.specs.Create.{isFreeSlot, freeSlot, refusals, newQueue}
+use Rattle.specification.specs.Sound.{limits}
+use Rattle.specification.specs.Answer.{Refusal, firstStatus}
 use Rattle.specification.specs.Call.{create}
 use Rattle.specification.specs.Create
-use Rattle.specification.specs.Create.{newQueue}
 use Rattle.specification.specs.Step.{directiveRefusals, effect, encoded}
-use Rattle.manager.specs.Outcomes.{answerOf, tables, outcomeOf, accepted, queuesAlone}
+use Rattle.specification.proofs.Refused.{None, refuses-none, Numbered, none-holds}
+use Rattle.soundness.specs.Parts.{onlyQueues}
+use Rattle.coremsg.proofs.Searches.{search-found}
+use Rattle.manager.specs.Outcomes.{answerOf, tables, outcomeOf, accepted}
 use Rattle.manager.specs.declared.answer.Answer.{Answer as CodeAnswer}
 use Rattle.manager.specs.declared.answer.Answer.the-variants.{Successful, Refused}
-use Rattle.ranks.proofs.Lists.{holds}
-use Rattle.records.proofs.Access.{queue-at}
-use Rattle.manager.proofs.Searches.{search-found}
-use Rattle.specification.proofs.Refused.{None, refuses-none}
-use Rattle.manager.proofs.Outcomes.{Numbered, none-holds, refused}
+use Rattle.manager.proofs.Outcomes.{refused}
 
 three : (a b c : Bool) → (a && b && c) ≡ all (a ∷ b ∷ c ∷ [])
 unfolding all
@@ -53,75 +41,29 @@ three false b c = refl
 pub free-test : (share i : ℕ) (q : Queue) (s : ℕ) → s ≡ shareOfSlot i → (eqb (q .live) 0 && eqb s share && ltb (q .generation) 65535) ≡ isFreeSlot share i q
 free-test share i q s e = rw e (three _ _ _)
 
-pub limit-counts : (share i : ℕ) (q : Queue) (s n : ℕ) → s ≡ shareOfSlot i → n ≡ q .limit → (eqb s share && eqb (q .live) 1) ≡ true → n ≡ limitIn share i q
-limit-counts share i q s n e f h = f ∙ rw (ap (λ (k : ℕ). eqb k share && eqb (q .live) 1) (sym e) ∙ h)
-
-pub limit-not : (share i : ℕ) (q : Queue) (s : ℕ) → s ≡ shareOfSlot i → (eqb s share && eqb (q .live) 1) ≡ false → 0 ≡ limitIn share i q
-limit-not share i q s e h = rw (ap (λ (k : ℕ). eqb k share && eqb (q .live) 1) (sym e) ∙ h)
-
 pub inside : (low high n : ℕ) → not (within low high n) ≡ false → (low ≤ n) × (n ≤ high)
 unfolding within
 inside low high n e =
     let (a, b) = both (leb low n) (leb n high) (not-false _ e) in
     (leb-true low n a, leb-true n high b)
 
--- ---- The first refusal, as the code finds it
-
 module _ (s : State) (share name limit maxSize attributes : ℕ) where
-  abbrev First : ℕ → Type 0
-  First n = n ≡ firstStatus (refusals s share name limit maxSize attributes)
-
   pub numbered : Numbered (refusals s share name limit maxSize attributes)
   unfolding refusals all
   numbered = refl
-
-  pub no-name : name ≡ 0 → First 1
-  unfolding firstStatus refusals
-  no-name e = rw (eq-eqb name 0 e)
-
-  module _ (some : name ≡ 0 → ⊥) where
-    pub bad-attributes : 3 < attributes → First 15
-    unfolding firstStatus refusals
-    bad-attributes h = rw (ne-eqb name 0 some, lt-ltb 3 attributes h)
-
-    module _ (known : attributes ≤ 3) where
-      pub bad-limit : not (within 1 16 limit) ≡ true → First 4
-      unfolding firstStatus refusals
-      bad-limit h = rw (ne-eqb name 0 some, le-ltb 3 attributes known, h)
-
-      module _ (in-limit : not (within 1 16 limit) ≡ false) where
-        pub bad-size : not (within 1 120 maxSize) ≡ true → First 3
-        unfolding firstStatus refusals
-        bad-size h = rw (ne-eqb name 0 some, le-ltb 3 attributes known, in-limit, h)
-
-        module _ (in-size : not (within 1 120 maxSize) ≡ false) (slot : ℕ) (found : slot ≡ freeSlot s share) where
-          pub no-slot : 16 ≤ slot → First 5
-          unfolding firstStatus refusals
-          no-slot h = rw (ne-eqb name 0 some, le-ltb 3 attributes known, in-limit, in-size, sym found, le-leb 16 slot h)
-
-          module _ (in-slot : slot < 16) (most total : ℕ) (most-is : most ≡ shareLimit share) (total-is : total ≡ limits s share) where
-            pub no-room : most < total + limit → First 6
-            unfolding firstStatus refusals
-            no-room h =
-                rw (ne-eqb name 0 some, le-ltb 3 attributes known, in-limit, in-size, sym found, lt-leb 16 slot in-slot, sym total-is, sym most-is, lt-ltb most (total + limit) h)
-
-            pub none : total + limit ≤ most → First 0
-            unfolding firstStatus refusals
-            none h =
-                rw (ne-eqb name 0 some, le-ltb 3 attributes known, in-limit, in-size, sym found, lt-leb 16 slot in-slot, sym total-is, sym most-is, le-ltb most (total + limit) h)
 
 -- ---- Create by its outcome
 
 module _ (t : Tables) (caller name limit maxSize attributes share : ℕ) (own : share ≡ shareOfTask caller) where
   abbrev code-refusals : List Refusal
-  code-refusals = refusals (queuesAlone (t .queues)) share name limit maxSize attributes
+  code-refusals = refusals (onlyQueues (t .queues)) share name limit maxSize attributes
 
   abbrev Outcome-is : CodeAnswer → Tables → Type 0
   Outcome-is a t′ = outcomeOf a t′ ≡ accepted t caller (create name limit maxSize attributes)
 
   same-refusals : code-refusals ≡ directiveRefusals (decode t) caller (create name limit maxSize attributes)
   unfolding directiveRefusals refusals freeSlot limits decode
-  same-refusals = ap (λ (p : ℕ). refusals (queuesAlone (t .queues)) p name limit maxSize attributes) own
+  same-refusals = ap (λ (p : ℕ). refusals (onlyQueues (t .queues)) p name limit maxSize attributes) own
 
   pub refused-create : (n : ℕ) → n ≡ firstStatus code-refusals → (n ≡ 0 → ⊥) → Outcome-is (Refused n) t
   refused-create n e ne = refused t _ _ n (e ∙ ap firstStatus same-refusals) ne
@@ -129,7 +71,7 @@ module _ (t : Tables) (caller name limit maxSize attributes share : ℕ) (own : 
   module _ (passed : 0 ≡ firstStatus code-refusals) (slot : ℕ)
       (found : slot ≡ first (mapWithIndex (isFreeSlot share) (decodeQueues (t .queues)))) where
     none-of-them : None code-refusals
-    none-of-them = none-holds code-refusals (numbered (queuesAlone (t .queues)) share name limit maxSize attributes) passed
+    none-of-them = none-holds code-refusals (numbered (onlyQueues (t .queues)) share name limit maxSize attributes) passed
 
     pub in-range : (attributes ≤ 3) × (limit ≤ 16) × (maxSize ≤ 120) × (slot < 16)
     unfolding refusals freeSlot

@@ -12,6 +12,7 @@ use Rattle.records.specs.Split
 use Rattle.records.specs.Split.{shareCount, shareOfSlot, shareOfTask}
 use Rattle.records.specs.Records.{Queue, isOpen}
 use Rattle.records.specs.Bytes.{Tables, decodeQueue, decodeQueues, decode, encode}
+use Rattle.records.proofs.Access.{queue-at}
 use Rattle.specification.specs.Answer.{refuseIfAny}
 use Rattle.specification.specs.Call.{ident}
 use Rattle.specification.specs.Ident.{isNamed, named, refusals}
@@ -19,7 +20,6 @@ use Rattle.specification.specs.Ident
 use Rattle.specification.specs.Step.{directiveRefusals, effect}
 use Rattle.manager.specs.Outcomes.{answerOf, outcomeOf, accepted}
 use Rattle.manager.specs.declared.answer.Answer.the-variants.{Successful, Refused}
-use Rattle.records.proofs.Access.{queue-at}
 
 four : (a b c d : Bool) → (a && b && c && d) ≡ all (a ∷ b ∷ c ∷ d ∷ [])
 unfolding all

@@ -1,17 +1,10 @@
 pub mod Broadcasts
 pub mod Calls
-pub mod Changed
 pub mod Creates
-pub mod Folds
 pub mod Idents
-pub mod Leasts
-pub mod Masks
 pub mod OnQueue
 pub mod Operations
 pub mod Outcomes
 pub mod Receives
-pub mod ReceiveSteps
-pub mod Searches
 pub mod Submits
-pub mod Sums
 pub mod Ticks

@@ -1,53 +1,53 @@
 -- The outcomes of the operations on a queue, as the code comes to them. Assumes nothing.
 use Prim.Native.Nat.{ℕ, _*_, _%_}
-use native.Mathlib.Omega.{arith}
-use mathlib.Core.Path.{_≡_, refl, sym, ap, _∙_}
-use mathlib.Core.Bool.{true, false}
-use mathlib.Core.List.{List}
-use Rattle.ranks.specs.Lists.{if_then_else_, mapWithIndex, mask}
+use mathlib.Core.Path.{_≡_, refl, sym, ap}
+use mathlib.Core.Bool.{false, not}
+use mathlib.Core.List.{List, [], _∷_}
+use Rattle.ranks.specs.Lists.{if_then_else_, mapWithIndex, mask, all}
 use Rattle.ranks.specs.Position.{inQueue}
 use Rattle.ranks.specs.Table.{slice}
 use Rattle.records.specs.Layout.{slotOf}
-use Rattle.records.specs.Records.{Queue, State, freeBuffer, freeQueue}
+use Rattle.records.specs.Records.{Queue, freeBuffer, freeQueue}
 use Rattle.records.specs.Bytes.{Tables, decodeQueue, decodeQueues, decodePool, decodeTasks, decode, encode}
 use Rattle.records.specs.Changes.{atIndex, withPending, readyWith}
-use Rattle.records.specs.Status.{SUCCESSFUL}
+use Rattle.records.specs.Status.{INVALID-ID, ILLEGAL-ON-REMOTE-OBJECT}
+use Rattle.specification.specs.Answer.{Refusal, _⇒_, firstStatus}
 use Rattle.specification.specs.Call.{getNumberPending, flush, delete}
 use Rattle.specification.specs.Lookup.{usableQueue, isForeign, waitersOf, withoutMessages, withoutWaiters}
 use Rattle.specification.specs.GetNumberPending
 use Rattle.specification.specs.Flush
 use Rattle.specification.specs.Delete
 use Rattle.specification.specs.Step.{operationRefusals, operationEffect}
-use Rattle.manager.specs.Outcomes.{answerOf, tables, firstStatus}
-use Rattle.manager.specs.declared.answer.Answer.the-variants.{Successful, Refused}
+use Rattle.specification.proofs.Refused.{None, none-holds}
+use Rattle.manager.specs.Outcomes.{answerOf, tables}
+use Rattle.manager.specs.declared.answer.Answer.the-variants.{Successful}
 use Rattle.manager.proofs.Outcomes.{left}
-use Rattle.manager.proofs.OnQueue.{Answers, queue-is, refused-operation, done}
+use Rattle.manager.proofs.OnQueue.{Answers, queue-is, done}
 
-module _ (t : Tables) (caller id : ℕ) (q : Queue) (read : q ≡ decodeQueue (slice (id % 16 * 16) 16 (t .queues))) (may : usableQueue q caller id ≡ true) where
-  pub pending-done : encode (decode t) ≡ t → Answers t caller id getNumberPending q read (Successful (q .pending) 0) t
+module _ (t : Tables) (caller id : ℕ) (q : Queue) (read : q ≡ decodeQueue (slice (id % 16 * 16) 16 (t .queues))) where
+  pub pending-done : not (usableQueue q caller id) ≡ false → encode (decode t) ≡ t → Answers t caller id getNumberPending q read (Successful (q .pending) 0) t
   unfolding answerOf operationRefusals operationEffect GetNumberPending.effect
-  pending-done same =
-      done t caller id getNumberPending q read may tt (Successful (q .pending) 0) t
+  pending-done may same =
+      done t caller id getNumberPending q read [] refl (may, tt) (Successful (q .pending) 0) t
       (ap (λ (x : Queue). answerOf (Successful (x .pending) 0)) (sym (queue-is t caller id getNumberPending q read))) (sym same)
 
-  pub flush-foreign : isForeign caller (slotOf id) ≡ true → Answers t caller id flush q read (Refused 12) t
-  unfolding operationRefusals Flush.refusals firstStatus
-  flush-foreign e = refused-operation t caller id flush q read may 12 (rw e) (λ z. omega (arith, z))
+  -- what delete and flush test
+  abbrev pub of-owner : List Refusal
+  of-owner = (isForeign caller (slotOf id) ⇒ ILLEGAL-ON-REMOTE-OBJECT) ∷ []
 
-  pub delete-foreign : isForeign caller (slotOf id) ≡ true → Answers t caller id delete q read (Refused 12) t
-  unfolding operationRefusals Delete.refusals firstStatus
-  delete-foreign e = refused-operation t caller id delete q read may 12 (rw e) (λ z. omega (arith, z))
-
-  module _ (owned : isForeign caller (slotOf id) ≡ false) (queues′ pool′ : List ℕ)
+  module _ (passed : 0 ≡ firstStatus ((not (usableQueue q caller id) ⇒ INVALID-ID) ∷ of-owner)) (queues′ pool′ : List ℕ)
       (cleared : decodePool pool′ ≡ mapWithIndex (λ b m. if inQueue (slotOf id) (m .position) then freeBuffer else m) (decodePool (t .pool))) where
-    pub flush-done : (n : ℕ) → n ≡ decodeQueue (slice (id % 16 * 16) 16 (t .queues)) .pending
-        → decodeQueues queues′ ≡ mapWithIndex (atIndex (slotOf id) (withPending 0)) (decodeQueues (t .queues))
+    none : None ((not (usableQueue q caller id) ⇒ INVALID-ID) ∷ of-owner)
+    unfolding all
+    none = none-holds ((not (usableQueue q caller id) ⇒ INVALID-ID) ∷ of-owner) refl passed
+
+    pub flush-done : decodeQueues queues′ ≡ mapWithIndex (atIndex (slotOf id) (withPending 0)) (decodeQueues (t .queues))
         → encode (decode (tables queues′ pool′ (t .tasks))) ≡ tables queues′ pool′ (t .tasks)
-        → Answers t caller id flush q read (Successful n 0) (tables queues′ pool′ (t .tasks))
+        → Answers t caller id flush q read (Successful (q .pending) 0) (tables queues′ pool′ (t .tasks))
     unfolding answerOf operationRefusals operationEffect Flush.refusals Flush.effect withoutMessages decode
-    flush-done n e written same =
-        done t caller id flush q read may (owned, tt) (Successful n 0) (tables queues′ pool′ (t .tasks))
-        (ap (λ (k : ℕ). answerOf (Successful k 0)) (e ∙ ap (λ (x : Queue). x .pending) (sym read ∙ sym (queue-is t caller id flush q read))))
+    flush-done written same =
+        done t caller id flush q read of-owner refl none (Successful (q .pending) 0) (tables queues′ pool′ (t .tasks))
+        (ap (λ (x : Queue). answerOf (Successful (x .pending) 0)) (sym (queue-is t caller id flush q read)))
         (left queues′ pool′ (t .tasks) (Flush.effect (decode t) (slotOf id) .after) same written cleared refl)
 
     pub delete-done : (tasks′ : List ℕ) (woken : ℕ) → woken ≡ mask (mapWithIndex (λ k w. inQueue (slotOf id) (w .position)) (decodeTasks (t .tasks)))
@@ -57,6 +57,6 @@ module _ (t : Tables) (caller id : ℕ) (q : Queue) (read : q ≡ decodeQueue (s
         → Answers t caller id delete q read (Successful 0 woken) (tables queues′ pool′ tasks′)
     unfolding answerOf operationRefusals operationEffect Delete.refusals Delete.effect withoutMessages withoutWaiters waitersOf decode
     delete-done tasks′ woken e written readied same =
-        done t caller id delete q read may (owned, tt) (Successful 0 woken) (tables queues′ pool′ tasks′)
+        done t caller id delete q read of-owner refl none (Successful 0 woken) (tables queues′ pool′ tasks′)
         (ap (λ (m : ℕ). answerOf (Successful 0 m)) e)
         (left queues′ pool′ tasks′ (Delete.effect (decode t) (slotOf id) .after) same written cleared readied)

@@ -1,25 +1,20 @@
 -- The outcome of a call that passed the tests 16, 10 and 11. Assumes nothing.
 use Prim.Native.Nat.{ℕ, _<_}
-use native.Mathlib.Omega.{arith}
 use mathlib.Core.Path.{_≡_, refl, sym, ap, _∙_}
-use mathlib.Core.Bool.{Bool, true, false}
-use mathlib.Core.List.{List, [], _∷_, map}
-use lib.Dec.{leb}
+use mathlib.Core.Bool.{true}
+use mathlib.Core.List.{List}
 use lib.ListN.{length, getD}
-use borrow.Author.Tests.{leb-true}
-use Rattle.ranks.specs.Lists.{all}
 use Rattle.records.specs.Records.{State}
 use Rattle.records.specs.Bytes.{Tables, decodeQueues, decodePool, decodeTasks, decode, encode, rightLengths}
 use Rattle.records.specs.InRange.{AllBytes}
-use Rattle.specification.specs.Answer.{Outcome, Refusal, refuseIfAny}
-use Rattle.manager.specs.Outcomes.{answerOf, tables, outcomeOf, Callable, firstStatus}
-use Rattle.manager.specs.declared.answer.Answer.the-variants.{Refused}
-use Rattle.ranks.proofs.Lists.{holds, held}
 use Rattle.records.proofs.EncodeDecode.{lengths, encode-decode}
-use Rattle.specification.proofs.Refused.{None}
+use Rattle.specification.specs.Answer.{Outcome, Refusal, refuseIfAny, firstStatus}
+use Rattle.specification.proofs.Refused.{refused-first}
 use Rattle.specification.proofs.SoundFacts.{SoundFacts, sound-facts}
 use Rattle.theorems.proofs.FieldsInRange.{decoded-sized}
 use Rattle.theorems.proofs.SoundCall.{ReadyCaller, ready-caller}
+use Rattle.manager.specs.Outcomes.{answerOf, tables, outcomeOf, Callable}
+use Rattle.manager.specs.declared.answer.Answer.the-variants.{Refused}
 
 -- the elements of a lent slice of bytes
 abbrev pub Slice : List ℕ → Type 0
@@ -55,30 +50,7 @@ pub left : (q p w : List ℕ) (s : State) → encode (decode (tables q p w)) ≡
 unfolding decode
 left q p w s same eq ep ew = sym same ∙ ap encode (λ i. record { queues = eq i; pool = ep i; tasks = ew i })
 
--- every refusal has a status that is not 0
-abbrev pub Numbered : List Refusal → Type 0
-Numbered rs = all (map (λ r. leb 1 (r .status)) rs) ≡ true
-
--- where the code finds no status, no refusal holds
-pub none-holds : (rs : List Refusal) → Numbered rs → 0 ≡ firstStatus rs → None rs
-unfolding firstStatus all
-none-holds [] k e = tt
-none-holds (r ∷ rs) k e = go (r .holds) refl (none-holds rs (numbers .1))
-  where
-    numbers : (leb 1 (r .status) ≡ true) × Numbered rs
-    numbers = let both = holds (leb 1 (r .status) ∷ map (λ x. leb 1 (x .status)) rs) k in (both .0, held (map (λ x. leb 1 (x .status)) rs) (both .1))
-
-    go : (b : Bool) → r .holds ≡ b → (0 ≡ firstStatus rs → None rs) → None (r ∷ rs)
-    go true h later = let none : 0 ≡ r .status = e ∙ rw h refl in absurd (omega (arith, none, leb-true 1 (r .status) (numbers .0)))
-    go false h later = (h, later (e ∙ rw h refl))
-
 -- the code's status is that of the first refusal
-module _ (t : Tables) (o : Outcome Tables) where
-  pub refused : (rs : List Refusal) (n : ℕ) → n ≡ firstStatus rs → (n ≡ 0 → ⊥) → outcomeOf (Refused n) t ≡ refuseIfAny t rs o
-  unfolding firstStatus refuseIfAny answerOf
-  refused [] n e ne = absurd (ne e)
-  refused (r ∷ rs) n e ne = go (r .holds) refl (λ f. refused rs n f ne)
-    where
-      go : (b : Bool) → r .holds ≡ b → (n ≡ firstStatus rs → outcomeOf (Refused n) t ≡ refuseIfAny t rs o) → outcomeOf (Refused n) t ≡ refuseIfAny t (r ∷ rs) o
-      go true h later = let same : n ≡ r .status = e ∙ rw h refl in rw (h, same)
-      go false h later = rw h (later (e ∙ rw h refl))
+pub refused : (t : Tables) (o : Outcome Tables) (rs : List Refusal) (n : ℕ) → n ≡ firstStatus rs → (n ≡ 0 → ⊥) → outcomeOf (Refused n) t ≡ refuseIfAny t rs o
+unfolding answerOf
+refused t o rs n e ne = refused-first t rs o n e ne

@@ -12,27 +12,27 @@ use borrow.Author.Tests.{eqb-true}
 use Rattle.ranks.specs.Lists.{if_then_else_, mapWithIndex, mask, range}
 use Rattle.ranks.specs.Steps.{takenOut}
 use Rattle.ranks.specs.Table.{slice}
+use Rattle.ranks.proofs.Tests.{both}
 use Rattle.records.specs.Records.{Task, State, taskAt}
 use Rattle.records.specs.Bytes.{Tables, decodeTask, decodeQueues, decodePool, decodeTasks, decode, encode, rightLengths}
 use Rattle.records.specs.Changes.{atIndex, moveTask, readyWith, withTicks, withWaiters}
 use Rattle.records.specs.TaskHeads.{headOf}
 use Rattle.records.specs.declared.task.TaskHead.{TaskHead}
+use Rattle.records.proofs.Access.{task-at, ones-mask}
+use Rattle.records.proofs.EncodeDecode.{encode-decode}
 use Rattle.specification.specs.Call.{tick}
 use Rattle.specification.specs.Lookup.{leave}
 use Rattle.specification.specs.Sound.{sound}
 use Rattle.specification.specs.Tick.{expires, tickTask, tickTasks}
 use Rattle.specification.specs.Tick
 use Rattle.specification.specs.Step.{effect, encoded}
-use Rattle.manager.specs.Outcomes.{answerOf, tables, outcomeOf}
-use Rattle.manager.specs.Ticks.{NamesSlot}
-use Rattle.manager.specs.declared.answer.Answer.the-variants.{Successful}
-use Rattle.ranks.proofs.Tests.{both}
-use Rattle.records.proofs.Access.{task-at, ones-mask}
-use Rattle.records.proofs.EncodeDecode.{encode-decode}
 use Rattle.specification.proofs.Rules.{task-rules}
 use Rattle.specification.proofs.SoundFacts.{SoundFacts, sound-facts}
 use Rattle.theorems.proofs.FieldsInRange.{decoded-sized}
 use Rattle.theorems.proofs.SoundTick.{tickTask-sound}
+use Rattle.manager.specs.Outcomes.{answerOf, tables, outcomeOf}
+use Rattle.manager.specs.Ticks.{NamesSlot}
+use Rattle.manager.specs.declared.answer.Answer.the-variants.{Successful}
 use Rattle.manager.proofs.Outcomes.{Slice}
 
 -- ---- One task's tick

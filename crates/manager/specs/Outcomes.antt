@@ -1,8 +1,7 @@
 -- The code's answers by the paper's numbers, and what the code of a directive promises.
-use Rattle.ranks.specs.Prelude.{ℕ, _≡_, Bool, true, false, _&&_, not, List, [], _∷_, ltb}
+use Rattle.ranks.specs.Prelude.{ℕ, _≡_, Bool, true, false, not, List, [], _∷_}
 use Rattle.ranks.specs.Lists.{if_then_else_}
-use Rattle.ranks.specs.Position.{inQueue}
-use Rattle.records.specs.Records.{Task, State}
+use Rattle.records.specs.Records.{State}
 use Rattle.records.specs.Bytes.{Tables, decodeQueues, decode, rightLengths}
 use Rattle.records.specs.Status.{SUCCESSFUL, WAITING, CORRUPT, BAD-CALLER, BAD-SHAPE}
 use Rattle.specification.specs.Answer.{Answer, Outcome, Refusal, refuseIfAny, _⇒_}
@@ -39,16 +38,3 @@ callRefusals t caller =
 -- The outcome of a call that passed them.
 abbrev pub accepted : Tables → (caller : ℕ) → Directive → Outcome Tables
 accepted t caller directive = refuseIfAny t (directiveRefusals (decode t) caller directive) (encoded (effect (decode t) (call caller directive)))
-
--- The status of the first refusal that holds, or 0.
-unfoldable pub firstStatus : List Refusal → ℕ
-firstStatus [] = 0
-firstStatus (r ∷ rs) = if r .holds then r .status else firstStatus rs
-
--- A state of which the queues alone are known.
-abbrev pub queuesAlone : List ℕ → State
-queuesAlone queues = record { queues = decodeQueues queues; pool = []; tasks = [] }
-
--- The rank of a task that waits in the queue of the slot with a greater number than the priority; else the rear.
-abbrev pub rankBehind : (slot priority rear : ℕ) → Task → ℕ
-rankBehind slot priority rear w = if inQueue slot (w .position) && ltb priority (w .priority) then w .position .rank else rear

@@ -2,8 +2,9 @@
 ghost use mathlib.Core.Path.{_≡_};
 ghost use lib.ListN.{length};
 ghost use Rattle.records.specs.Bytes.{decode, rightLengths};
+ghost use Rattle.specification.specs.Answer.{firstStatus};
 ghost use Rattle.specification.specs.Step.{badCaller};
-ghost use Rattle.manager.specs.Outcomes.{tables, callRefusals, firstStatus};
+ghost use Rattle.manager.specs.Outcomes.{tables, callRefusals};
 use records::task::read_head;
 use soundness::search::is_sound;
 
@@ -14,7 +15,7 @@ pub fn right_lengths(queues: &[u8], pool: &[u8], tasks: &[u8]) -> bool
 }
 
 // "caller above 31, or waiting"
-fn bad_caller(queues: &[u8], pool: &[u8], tasks: &[u8], caller: u32) -> bool
+pub fn bad_caller(queues: &[u8], pool: &[u8], tasks: &[u8], caller: u32) -> bool
     requires { ⌜ length (now tasks) ≡ 4352 ⌝ }
     ensures { λ r. ⌜ r ≡ badCaller (decode (tables (now (queues .entry)) (now (pool .entry)) (now (tasks .entry)))) caller ⌝ }
 {

@@ -1,15 +1,13 @@
 // The clock tick.
 ghost use mathlib.Core.Path.{_≡_};
-ghost use mathlib.Core.Bool.{true, false, _&&_};
+ghost use mathlib.Core.Bool.{true, _&&_};
 ghost use mathlib.Core.List.{List};
 ghost use Prim.Native.Nat.{ℕ, _*_, _<_};
 ghost use lib.Dec.{eqb, leb};
 ghost use lib.ListN.{length};
-ghost use Rattle.ranks.specs.Lists.{if_then_else_, mapWithIndex, mask};
-ghost use Rattle.ranks.specs.Steps.{takenOut};
+ghost use Rattle.ranks.specs.Lists.{mapWithIndex, mask};
 ghost use Rattle.ranks.specs.Table.{slice};
 ghost use Rattle.records.specs.Bytes.{decodeTask, decodeTasks, decode, rightLengths};
-ghost use Rattle.records.specs.Changes.{atIndex, moveTask, readyWith, withTicks};
 ghost use Rattle.specification.specs.Call.{tick};
 ghost use Rattle.specification.specs.Sound.{sound};
 ghost use Rattle.specification.specs.Step.{effect, encoded, step};
@@ -18,9 +16,11 @@ ghost use Rattle.manager.specs.Outcomes.{tables, outcomeOf};
 ghost use Rattle.manager.specs.Ticks.{NamesSlot};
 use crate::answer::Answer;
 use crate::call::right_lengths;
-use crate::lookup::with_bit;
-use crate::waiters::fewer_waiters;
-use crate::waiters::make_ready;
+use coremsg::lookup::less_one;
+use coremsg::masks::with_bit;
+use coremsg::waiters::time_out;
+use records::queue::read_queue;
+use records::queue::write_queue;
 use records::task::TaskHead;
 use records::task::read_head;
 use records::task::write_head;
@@ -54,24 +54,6 @@ pub fn expired_mask(tasks: &[u8]) -> u32
     m
 }
 
-// Task t leaves the queue of the slot, where it stands at the rank, with status TIMEOUT.
-fn time_out(tasks: &mut [u8], t: usize, slot: u8, rank: u8)
-    requires { ⌜ (t < 32) × ((slot < 16) × (length (now tasks) ≡ 4352)) ⌝ }
-    ensures { λ _. ⌜ decodeTasks (now (tasks .exit)) ≡ mapWithIndex (λ j w. if eqb j t then readyWith 7 w else moveTask (takenOut t slot rank j (w .position)) w) (decodeTasks (now (tasks .entry))) ⌝ }
-{
-    ranks::take_out(tasks, 136, 1, 32, t, slot, rank);
-    make_ready(tasks, t, 7);
-}
-
-// Task t has this many ticks left.
-fn set_ticks(tasks: &mut [u8], t: usize, ticks: u32)
-    requires { ⌜ (t < 32) × (length (now tasks) ≡ 4352) ⌝ }
-    ensures { λ _. ⌜ decodeTasks (now (tasks .exit)) ≡ mapWithIndex (atIndex t (withTicks ticks)) (decodeTasks (now (tasks .entry))) ⌝ }
-{
-    let h = read_head(tasks, t);
-    write_head(tasks, t, h.with_ticks(ticks));
-}
-
 // "every waiting task with ticks above 0 loses one; all that reach 0 become ready": task t, whatever the buffers.
 fn tick_task(queues: &mut [u8], tasks: &mut [u8], t: usize)
     requires { ⌜ (t < 32) × ((length (now queues) ≡ 256) × ((length (now tasks) ≡ 4352) × NamesSlot (decodeTask (slice (t * 136) 136 (now tasks))))) ⌝ }
@@ -82,16 +64,18 @@ fn tick_task(queues: &mut [u8], tasks: &mut [u8], t: usize)
     if expires(h) {
         let slot = h.queue - 1;
         time_out(tasks, t, slot, h.rank);
-        fewer_waiters(queues, slot as usize);
+        let q = read_queue(queues, slot as usize);
+        let n = less_one(q.waiters);
+        write_queue(queues, slot as usize, q.with_waiters(n));
         return;
     }
     if is_timed(h) {
-        set_ticks(tasks, t, h.ticksLeft - 1);
+        write_head(tasks, t, h.with_ticks(h.ticksLeft - 1));
     }
 }
 
 // The tick, on sound tables.
-fn tick(queues: &mut [u8], pool: &[u8], tasks: &mut [u8]) -> Answer
+pub fn tick(queues: &mut [u8], pool: &[u8], tasks: &mut [u8]) -> Answer
     requires { ⌜ (rightLengths (tables (now queues) (now pool) (now tasks)) ≡ true) × (sound (decode (tables (now queues) (now pool) (now tasks))) ≡ true) ⌝ }
     ensures { λ r. ⌜ outcomeOf r (tables (now (queues .exit)) (now (pool .entry)) (now (tasks .exit)))
         ≡ encoded (effect (decode (tables (now (queues .entry)) (now (pool .entry)) (now (tasks .entry)))) tick) ⌝ }

@@ -2,8 +2,6 @@
 pub mod answer; // answer.rt: what a call answers
 pub mod call; // call.rt: the tests that every call makes first
 pub mod clocktick; // clocktick.rt: the clock tick
-pub mod lookup; // lookup.rt: what the directives ask of the tables
-pub mod messages; // messages.rt: messages of a queue
 pub mod msgqbroadcast; // msgqbroadcast.rt: broadcast
 pub mod msgqcreate; // msgqcreate.rt: create
 pub mod msgqdelete; // msgqdelete.rt: delete
@@ -14,4 +12,3 @@ pub mod msgqreceive; // msgqreceive.rt: receive
 pub mod msgqsend; // msgqsend.rt: send
 pub mod msgqsubmit; // msgqsubmit.rt: what send and urgent share
 pub mod msgqurgent; // msgqurgent.rt: urgent
-pub mod waiters; // waiters.rt: tasks that wait in a queue, and how they leave it

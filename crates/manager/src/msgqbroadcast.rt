@@ -1,19 +1,41 @@
 // Broadcast.
 ghost use mathlib.Core.Path.{_≡_};
+ghost use mathlib.Core.Bool.{not};
+ghost use mathlib.Core.List.{[], _∷_};
+ghost use Prim.Native.Nat.{_<_};
+ghost use Rattle.records.specs.Records.{sizeAllowed};
+ghost use Rattle.records.specs.Status.{INVALID-ID, INVALID-SIZE};
+ghost use Rattle.specification.specs.Answer.{_⇒_, firstStatus};
 ghost use Rattle.specification.specs.Call.{call, onQueue, broadcast};
+ghost use Rattle.specification.specs.Lookup.{usableQueue};
 ghost use Rattle.specification.specs.Step.{step};
 ghost use Rattle.manager.specs.Outcomes.{tables, outcomeOf, Callable, accepted};
 use crate::answer::Answer;
 use crate::call::call_refusal;
-use crate::lookup::bad_size;
-use crate::lookup::usable;
-use crate::waiters::deliver_to_all;
-use crate::waiters::no_waiters;
-use crate::waiters::waiters_mask;
+use coremsg::lookup::bad_size;
+use coremsg::lookup::usable;
+use coremsg::waiters::deliver_to_all;
+use coremsg::waiters::waiters_mask;
+use records::queue::QueueRecord;
 use records::queue::read_queue;
+use records::queue::write_queue;
+
+// The status of the first refusal, or 0.
+fn refusal(q: QueueRecord, caller: usize, id: u32, size: usize) -> u8
+    requires { ⌜ caller < 32 ⌝ }
+    ensures { λ r. ⌜ r ≡ firstStatus ((not (usableQueue q caller id) ⇒ INVALID-ID) ∷ (not (sizeAllowed q size) ⇒ INVALID-SIZE) ∷ []) ⌝ }
+{
+    if !usable(q, caller, id) {
+        return 2;
+    }
+    if bad_size(q, size) {
+        return 3;
+    }
+    0
+}
 
 // Broadcast, on sound tables and for a caller that may call.
-fn broadcast(
+pub fn broadcast(
     queues: &mut [u8],
     pool: &[u8],
     tasks: &mut [u8],
@@ -27,15 +49,13 @@ fn broadcast(
 {
     let slot = (id % 16) as usize;
     let q = read_queue(queues, slot);
-    if !usable(q, caller, id) {
-        return Answer::Refused(2);
-    }
-    if bad_size(q, message.len()) {
-        return Answer::Refused(3);
+    let status = refusal(q, caller, id, message.len());
+    if status != 0 {
+        return Answer::Refused(status);
     }
     let woken = waiters_mask(tasks, slot);
     deliver_to_all(tasks, slot, message);
-    no_waiters(queues, slot);
+    write_queue(queues, slot, q.with_waiters(0));
     Answer::Successful(u32::count_ones(woken), woken)
 }
 

@@ -1,28 +1,30 @@
 // Create.
 ghost use mathlib.Core.Path.{_≡_};
-ghost use Prim.Native.Nat.{_+_, _*_, _<_, _≤_};
+ghost use Prim.Native.Nat.{_+_, _*_, _<_};
 ghost use lib.ListN.{length};
 ghost use mathlib.Core.Bool.{not};
-ghost use Rattle.ranks.specs.Lists.{within, mapWithIndex, first, sum};
+ghost use Rattle.ranks.specs.Lists.{within, mapWithIndex, first};
 ghost use Rattle.ranks.specs.Table.{slice};
 ghost use Rattle.records.specs.Bytes.{decodeQueue, decodeQueues};
 ghost use Rattle.specification.specs.Call.{call, create};
 ghost use Rattle.specification.specs.Step.{step};
 ghost use Rattle.specification.specs.Create.{isFreeSlot, newQueue, refusals};
-ghost use Rattle.specification.specs.Sound.{limitIn};
 ghost use Rattle.records.specs.Layout.{idOf};
 ghost use Rattle.records.specs.Changes.{atIndex};
 ghost use Rattle.manager.specs.declared.answer.Answer.the-variants.{Successful};
-ghost use Rattle.manager.specs.Outcomes.{tables, outcomeOf, Callable, accepted, firstStatus, queuesAlone};
+ghost use Rattle.specification.specs.Answer.{firstStatus};
+ghost use Rattle.soundness.specs.Parts.{onlyQueues};
+ghost use Rattle.manager.specs.Outcomes.{tables, outcomeOf, Callable, accepted};
 use crate::answer::Answer;
 use crate::call::call_refusal;
-use crate::lookup::id_of;
+use coremsg::lookup::id_of;
 use records::queue::QueueRecord;
 use records::queue::read_queue;
 use records::queue::write_queue;
 use records::shares::share_limit;
 use records::shares::share_of_slot;
 use records::shares::share_of_task;
+use soundness::queues::share_limits;
 
 // The slot is free, of the share, and not spent.
 fn is_free_slot(queues: &[u8], share: usize, slot: usize) -> bool
@@ -46,38 +48,6 @@ fn free_slot(queues: &[u8], share: usize) -> usize
         i += 1;
     }
     i
-}
-
-fn wide(b: u8) -> u32
-    ensures { λ r. ⌜ (r ≡ b) × (r < 256) ⌝ }
-{
-    b as u32
-}
-
-// What the queue in the slot adds to the limits of the share.
-fn limit_in(queues: &[u8], share: usize, slot: usize) -> u32
-    requires { ⌜ (length (now queues) ≡ 256) × (slot < 16) ⌝ }
-    ensures { λ r. ⌜ (r ≡ limitIn share slot (decodeQueue (slice (slot * 16) 16 (now (queues .entry))))) × (r < 256) ⌝ }
-{
-    let q = read_queue(queues, slot);
-    if (share_of_slot(slot) == share) & (q.live == 1) {
-        return wide(q.limit);
-    }
-    0
-}
-
-// The sum of the limits of the share's live queues.
-fn limits(queues: &[u8], share: usize) -> u32
-    requires { ⌜ length (now queues) ≡ 256 ⌝ }
-    ensures { λ r. ⌜ (r ≡ sum (mapWithIndex (limitIn share) (decodeQueues (now (queues .entry))))) × (r ≤ 4096) ⌝ }
-{
-    let mut n = 0;
-    let mut i = 0;
-    while i < 16 {
-        n += limit_in(queues, share, i);
-        i += 1;
-    }
-    n
 }
 
 // A live queue with no message and no waiter.
@@ -114,7 +84,7 @@ fn refusal(
     attributes: u32,
 ) -> u8
     requires { ⌜ (length (now queues) ≡ 256) × ((share < 4) × (slot ≡ first (mapWithIndex (isFreeSlot share) (decodeQueues (now queues))))) ⌝ }
-    ensures { λ r. ⌜ r ≡ firstStatus (refusals (queuesAlone (now (queues .entry))) share name limit size attributes) ⌝ }
+    ensures { λ r. ⌜ r ≡ firstStatus (refusals (onlyQueues (now (queues .entry))) share name limit size attributes) ⌝ }
 {
     if name == 0 {
         return 1;
@@ -131,7 +101,7 @@ fn refusal(
     if 16 <= slot {
         return 5;
     }
-    if share_limit(share) < (limits(queues, share) + limit) as usize {
+    if share_limit(share) < share_limits(queues, share) + limit as usize {
         return 6;
     }
     0
@@ -161,7 +131,7 @@ fn create_in(
 }
 
 // Create, on sound tables and for a caller that may call.
-fn create(
+pub fn create(
     queues: &mut [u8],
     pool: &[u8],
     tasks: &[u8],

@@ -5,11 +5,17 @@ ghost use Rattle.specification.specs.Step.{step};
 ghost use Rattle.manager.specs.Outcomes.{tables, outcomeOf, Callable, accepted};
 use crate::answer::Answer;
 use crate::call::call_refusal;
-use crate::lookup::usable;
+use coremsg::lookup::usable;
 use records::queue::read_queue;
 
 // Get number pending, on sound tables and for a caller that may call.
-fn get_number_pending(queues: &[u8], pool: &[u8], tasks: &[u8], caller: usize, id: u32) -> Answer
+pub fn get_number_pending(
+    queues: &[u8],
+    pool: &[u8],
+    tasks: &[u8],
+    caller: usize,
+    id: u32,
+) -> Answer
     requires { ⌜ Callable (tables (now queues) (now pool) (now tasks)) caller ⌝ }
     ensures { λ r. ⌜ outcomeOf r (tables (now (queues .entry)) (now (pool .entry)) (now (tasks .entry)))
         ≡ accepted (tables (now (queues .entry)) (now (pool .entry)) (now (tasks .entry))) caller (onQueue id getNumberPending) ⌝ }

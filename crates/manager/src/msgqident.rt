@@ -11,8 +11,8 @@ ghost use Rattle.specification.specs.Ident.{isNamed};
 ghost use Rattle.manager.specs.Outcomes.{tables, outcomeOf, Callable, accepted};
 use crate::answer::Answer;
 use crate::call::call_refusal;
-use crate::lookup::id_of;
-use crate::lookup::is_open;
+use coremsg::lookup::id_of;
+use coremsg::lookup::is_open;
 use records::queue::read_queue;
 use records::shares::share_of_slot;
 use records::shares::share_of_task;
@@ -45,7 +45,14 @@ fn named(queues: &[u8], caller: usize, name: u32, share: usize) -> usize
 }
 
 // Ident, on sound tables and for a caller that may call.
-fn ident(queues: &[u8], pool: &[u8], tasks: &[u8], caller: usize, name: u32, share: u32) -> Answer
+pub fn ident(
+    queues: &[u8],
+    pool: &[u8],
+    tasks: &[u8],
+    caller: usize,
+    name: u32,
+    share: u32,
+) -> Answer
     requires { ⌜ Callable (tables (now queues) (now pool) (now tasks)) caller ⌝ }
     ensures { λ r. ⌜ outcomeOf r (tables (now (queues .entry)) (now (pool .entry)) (now (tasks .entry)))
         ≡ accepted (tables (now (queues .entry)) (now (pool .entry)) (now (tasks .entry))) caller (ident name share) ⌝ }

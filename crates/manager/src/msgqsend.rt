@@ -8,7 +8,7 @@ use crate::call::call_refusal;
 use crate::msgqsubmit::submit;
 
 // Send, on sound tables and for a caller that may call.
-fn send(
+pub fn send(
     queues: &mut [u8],
     pool: &mut [u8],
     tasks: &mut [u8],

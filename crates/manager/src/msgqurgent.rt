@@ -8,7 +8,7 @@ use crate::call::call_refusal;
 use crate::msgqsubmit::submit;
 
 // Urgent, on sound tables and for a caller that may call.
-fn urgent(
+pub fn urgent(
     queues: &mut [u8],
     pool: &mut [u8],
     tasks: &mut [u8],

@@ -7,8 +7,8 @@ use mathlib.Core.Bool.{Bool, true, false, _&&_, not, true≢false}
 use mathlib.Core.Logic.{_⊎_, inl, inr}
 use mathlib.Core.List.{List, [], _∷_, _++_, map}
 use lib.Dec.{eqb}
-use lib.ListN.{length, getD, set, take, drop, length-map, length-set, drop-of-length-le, List·getD-eq-default}
-use lib.Seq.{ext-getD, getD-at, getD-set-same, getD-set-other, length-take-le, take-all}
+use lib.ListN.{length, getD, set, take, drop, length-map, length-set, List·getD-eq-default}
+use lib.Seq.{ext-getD, getD-at, getD-set-same, getD-set-other, length-take-le}
 use borrow.Author.Tests.{eqb-true, eq-eqb, ne-eqb}
 use Rattle.ranks.specs.Lists.{mapWithIndex, count, first, range, filter}
 use Rattle.ranks.specs.Position.{Position, inQueue, standsAt}
@@ -288,16 +288,6 @@ module _ {A : Type 0} {position : A → Position} {a : A} {N slot n : ℕ} {xs :
         (listed-agree (λ j h. alike (to j h))
         (listed-put t rank refl le (here, ap (λ (p : Position). p .queue) there, ap (λ (p : Position). p .rank) there)
         (is N (positions position a xs) slot n t rank here free le (table .ranks)) (by-rank-listed table))))
-
-  module _ (t : ℕ) (here : t < N) (free : position (getD xs t a) .queue ≡ 0) where
-    pub inserted-last : Changed position a N xs xs′ (inserted t slot n) → byRank position slot (suc n) xs′ ≡ byRank position slot n xs ++ (t ∷ [])
-    inserted-last to =
-        let l : List ℕ = byRank position slot n xs in
-        let le : length l ≤ n = omega (arith, length-by-rank table) in
-        inserted-list t n here free (omega arith) to ∙ rw (take-all n l le, drop-of-length-le l le)
-
-    pub inserted-front : Changed position a N xs xs′ (inserted t slot 0) → byRank position slot (suc n) xs′ ≡ t ∷ byRank position slot n xs
-    inserted-front to = inserted-list t 0 here free (omega arith) to
 
   -- Record t, which stands at rank k, is taken out.
   module _ (t k : ℕ) (s : Stands N (positions position a xs) slot k t) (to : Changed position a N xs xs′ (takenOut t slot k)) where

@@ -9,7 +9,7 @@ use borrow.Author.Tests.{eqb-true, eq-eqb}
 use Rattle.ranks.specs.Lists.{mapWithIndex}
 use Rattle.ranks.specs.Position.{Position, standsAt}
 use Rattle.ranks.specs.Steps.{recordAt}
-use Rattle.ranks.proofs.Lists.{at-mapped, length-mapped, first-true, first-least, first-bound}
+use Rattle.ranks.proofs.Lists.{at-mapped, length-mapped, first-true, first-least}
 use Rattle.ranks.proofs.Tests.{both, and}
 use Rattle.ranks.proofs.Ranks.{Ranked}
 
@@ -25,9 +25,6 @@ module _ {A : Type 0} (position : A → Position) (slot rank : ℕ) (xs : List A
       let p = first-true (mapWithIndex test xs) (subst (λ (n : ℕ). found < n) (sym (length-mapped test xs)) lt) in
       let (q, r) = both _ _ (sym (at-mapped test xs found a false lt) ∙ p) in
       (eqb-true _ _ q, eqb-true _ _ r)
-
-  pub found-bound : found ≤ length xs
-  found-bound = let h = first-bound (mapWithIndex test xs) in let e = length-mapped test xs in omega arith
 
   -- it is not behind a record that stands there
   pub found-least : (j : ℕ) → j < length xs → position (getD xs j a) .queue ≡ suc slot → position (getD xs j a) .rank ≡ rank → found ≤ j

@@ -1,5 +1,5 @@
 -- Laws of the list functions of `specs/Lists.antt`. Assumes nothing.
-use Prim.Native.Nat.{ℕ, zero, suc, _+_, _*_, _/_, _%_, _≤_, _<_, min}
+use Prim.Native.Nat.{ℕ, zero, suc, _+_, _*_, _/_, _≤_, _<_, min}
 use native.Mathlib.Nat.{add-zero, add-suc, suc-add, zero-add, le-of-suc-le-suc, not-suc-le-zero}
 use native.Mathlib.Omega.{arith}
 use mathlib.Core.Path.{_≡_, refl, sym, ap, _∙_, subst}
@@ -8,11 +8,10 @@ use mathlib.Core.List.{List, [], _∷_}
 use lib.ListN.{length, getD, set, drop, length-set}
 use lib.Seq.{ext-getD, drop-cons, drop-length, getD-set-same, getD-set-other}
 use native.Mathlib.Numerals.{add-one}
-use native.Mathlib.Decide.{decLt}
-use mathlib.Core.Logic.{_⊎_, inl, inr, ⊎-elim}
-use Rattle.ranks.specs.Lists.{if_then_else_, mapFromIndex, mapWithIndex, all, count, first, mask, bit, range, sum, minimum}
+use mathlib.Core.Logic.{⊎-elim}
+use Rattle.ranks.specs.Lists.{if_then_else_, mapFromIndex, mapWithIndex, all, allZero, count, first, mask, bit, range, sum, minimum}
 use Rattle.ranks.proofs.Tests.{same?, lt-or-ge}
-use lib.Dec.{leb, ltb}
+use lib.Dec.{eqb, leb, ltb}
 use borrow.Author.Tests.{leb-true, leb-false, lt-ltb, le-ltb}
 
 module _ {A B : Type 0} where
@@ -320,3 +319,15 @@ all-cons false bs = refl
 pub all-nil : all [] ≡ true
 unfolding all
 all-nil = refl
+
+pub zeros-cons : (n : ℕ) (ns : List ℕ) → allZero (n ∷ ns) ≡ eqb n 0 && allZero ns
+unfolding allZero
+zeros-cons n ns = go (eqb n 0)
+  where
+    go : (b : Bool) → (elim b [ true ↦ allZero ns | false ↦ false ]) ≡ b && allZero ns
+    go true = refl
+    go false = refl
+
+pub zeros-nil : allZero [] ≡ true
+unfolding allZero
+zeros-nil = refl

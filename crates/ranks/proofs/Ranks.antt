@@ -1,14 +1,12 @@
 -- The rank facts, once for messages and waiters alike. Assumes nothing.
-use Prim.Native.Nat.{ℕ, zero, suc, pred, _+_, _-_, _≤_, _<_}
+use Prim.Native.Nat.{ℕ, suc, _-_, _≤_, _<_}
 use native.Mathlib.Omega.{arith}
 use mathlib.Core.Path.{_≡_, refl, sym, ap, _∙_, subst}
 use mathlib.Core.Bool.{Bool, true, false, _&&_}
-use mathlib.Core.Logic.{_⊎_, inl, inr, ⊎-elim}
 use lib.Dec.{eqb, leb, ltb}
 use borrow.Author.Tests.{eqb-true, eqb-false, leb-true, leb-false, ltb-true, ltb-false, eq-eqb, ne-eqb}
 use Rattle.ranks.specs.Position.{Position, noQueue, positionAt, inQueue}
 use Rattle.ranks.specs.Steps.{inserted, takenOut}
-use Rattle.ranks.proofs.Tests.{both, not-and, either}
 
 -- Of N positions those in the queue of the slot have the ranks 0 to n-1, each exactly once.
 pub record Ranked (N : ℕ) (P : ℕ → Position) (slot n : ℕ) : Type 0 where

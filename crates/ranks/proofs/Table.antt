@@ -1,15 +1,14 @@
 -- Laws of tables of records. Assumes nothing.
-use Prim.Native.Nat.{ℕ, zero, suc, _+_, _-_, _*_, _≤_, _<_}
 use native.Mathlib.Omega.{arith}
-use native.Mathlib.Nat.{not-suc-le-zero, zero-mul, suc-mul, mul-le-mul-right, add-zero, zero-add, suc-add}
-use mathlib.Core.Path.{_≡_, refl, sym, ap, ap₂, _∙_, subst}
+use Prim.Native.Nat.{ℕ, zero, suc, _+_, _*_, _≤_, _<_}
+use native.Mathlib.Nat.{not-suc-le-zero, zero-mul, suc-mul, mul-le-mul-right, zero-add, suc-add}
+use mathlib.Core.Path.{_≡_, refl, sym, ap, ap₂, _∙_}
 use mathlib.Core.List.{List, [], _∷_, _++_, append-assoc}
-use lib.ListN.{length, getD, take, drop, set, length-append, length-take, length-drop, length-set}
+use lib.ListN.{length, getD, take, drop, set, length-drop}
 use lib.Seq.{take-nil, length-take-le, take-at, drop-at, take-take, drop-drop, take-append-le, drop-append-le, getD-drop, getD-take, take-set-le, take-set-lt, drop-set-lt, drop-set-add, set-set}
-use Rattle.ranks.specs.Lists.{mapWithIndex}
 use Rattle.ranks.specs.Position.{Position}
 use Rattle.ranks.specs.Table.{slice, byte, records, spliced, positionIn, putPosition, moved, Shape}
-use Rattle.ranks.proofs.Lists.{upTo, upTo-turn, at-upTo, upTo-all}
+use Rattle.ranks.proofs.InTurn.{ChangedUpTo, still, one-more-changed}
 
 -- ---- Records
 
@@ -131,24 +130,23 @@ position-slice i n a t h =
 pub inside : {stride place count size : ℕ} → Shape stride place count size → (i : ℕ) → i < count → i * stride + stride ≤ size
 inside {stride} {place} {count} {size} s i h = omega (arith, s .whole, before stride i count h)
 
-module _ (n a k : ℕ) (F : ℕ → Position → Position) (t₀ t : List ℕ) (shape : Shape n a k (length t)) (i : ℕ) (hi : i < k)
-    (inv : records k n t ≡ upTo (moved a F) i (records k n t₀)) where
-  -- record i is still as it was
-  pub still : slice (i * n) n t ≡ getD (records k n t₀) i []
-  still =
-      sym (at-records k n t i hi) ∙ ap (λ (l : List (List ℕ)). getD l i []) inv
-      ∙ at-upTo (moved a F) (records k n t₀) [] i (omega (arith, length-records k n t₀))
+-- and so does its position
+pub position-inside : {stride place count size : ℕ} → Shape stride place count size → (i : ℕ) → i < count → i * stride + place + 1 < size
+position-inside s i h = omega (arith, s .inside, inside s i h)
+
+module _ {n a k : ℕ} (F : ℕ → Position → Position) {t₀ t : List ℕ} {i : ℕ} (shape : Shape n a k (length t₀)) (hi : i < k)
+    (changed : ChangedUpTo (records k n) k (moved a F) t₀ t i) where
+  record-still : slice (i * n) n t ≡ getD (records k n t₀) i []
+  record-still = sym (at-records k n t i hi) ∙ still [] (length-records k n t₀) changed hi
 
   pub position-still : positionIn (i * n + a) t ≡ positionIn a (getD (records k n t₀) i [])
-  position-still = position-slice (i * n) n a t (shape .inside) ∙ ap (positionIn a) still
+  position-still = position-slice (i * n) n a t (shape .inside) ∙ ap (positionIn a) record-still
 
-  pub moved-turn : (u : List ℕ) (p : Position) → p ≡ F i (positionIn (i * n + a) t) → u ≡ putPosition (i * n + a) p t
-      → records k n u ≡ upTo (moved a F) (i + 1) (records k n t₀)
+  pub one-more-moved : {u : List ℕ} {p : Position} → length u ≡ length t → p ≡ F i (positionIn (i * n + a) t) → u ≡ putPosition (i * n + a) p t
+      → ChangedUpTo (records k n) k (moved a F) t₀ u (i + 1)
   unfolding moved
-  moved-turn u p e f =
-      let r : List ℕ = getD (records k n t₀) i [] in
-      let q : p ≡ F i (positionIn a r) = e ∙ ap (F i) position-still in
-      ap (records k n) f
-      ∙ records-put-position k n t i a p (shape .inside) hi (inside shape i hi)
-      ∙ ap₂ {C = List (List ℕ)} (λ (l : List (List ℕ)) (x : List ℕ). set l i x) inv (ap₂ {C = List ℕ} (putPosition a) q still)
-      ∙ upTo-turn (moved a F) (records k n t₀) [] i (omega (arith, length-records k n t₀))
+  one-more-moved {u} {p} l e f =
+      one-more-changed [] (length-records k n t₀) changed hi l
+      (ap (records k n) f
+      ∙ records-put-position k n t i a p (shape .inside) hi (omega (arith, inside shape i hi, changed .size))
+      ∙ ap (set (records k n t) i) (ap₂ {C = List ℕ} (putPosition a) (e ∙ ap (F i) position-still) record-still))

@@ -30,6 +30,10 @@ ranked slot n ps =
 
 -- ---- For the code, on a table whose records have their position at byte `place`
 
+-- record `i` enters the queue at the rank, or leaves it from there
+abbrev pub shifted : (entering : Bool) (i slot rank j : ℕ) → Position → Position
+shifted entering i slot rank = if entering then inserted i slot rank else takenOut i slot rank
+
 -- There is room behind the ranks of the queue for one more, in a byte.
 abbrev pub Room : (place slot : ℕ) → List (List ℕ) → Type 0
 Room place slot rs = (j : ℕ) → inQueue slot (positionIn place (getD rs j [])) ≡ true → positionIn place (getD rs j []) .rank < 255

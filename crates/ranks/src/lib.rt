@@ -6,7 +6,7 @@ ghost use lib.ListN.{length};
 ghost use Rattle.ranks.specs.Lists.{mapWithIndex};
 ghost use Rattle.ranks.specs.Position.{inQueue, standsAt};
 ghost use Rattle.ranks.specs.Table.{records, positionIn, putPosition, moved, Shape};
-ghost use Rattle.ranks.specs.Steps.{inserted, takenOut, Room, firstAt};
+ghost use Rattle.ranks.specs.Steps.{inserted, takenOut, shifted, Room, firstAt};
 
 // Where a record stands: its queue (slot + 1, 0 none) and its rank there.
 pub struct Position {
@@ -22,13 +22,11 @@ fn after_take_out(i: usize, slot: u8, rank: u8, j: usize, p: Position) -> Positi
     if j == i {
         return Position { queue: 0, rank: 0 };
     }
-    if p.queue == slot + 1 {
-        if rank < p.rank {
-            return Position {
-                queue: slot + 1,
-                rank: p.rank - 1,
-            };
-        }
+    if (p.queue == slot + 1) & (rank < p.rank) {
+        return Position {
+            queue: slot + 1,
+            rank: p.rank - 1,
+        };
     }
     p
 }
@@ -44,15 +42,24 @@ fn after_insert(i: usize, slot: u8, rank: u8, j: usize, p: Position) -> Position
             rank: rank,
         };
     }
-    if p.queue == slot + 1 {
-        if rank <= p.rank {
-            return Position {
-                queue: slot + 1,
-                rank: p.rank + 1,
-            };
-        }
+    if (p.queue == slot + 1) & (rank <= p.rank) {
+        return Position {
+            queue: slot + 1,
+            rank: p.rank + 1,
+        };
     }
     p
+}
+
+// The position of record j after record i entered at the rank, or left from it.
+fn after(entering: bool, i: usize, slot: u8, rank: u8, j: usize, p: Position) -> Position
+    requires { ⌜ (slot < 255) × (entering ≡ true → inQueue slot p ≡ true → p .rank < 255) ⌝ }
+    ensures { λ r. ⌜ r ≡ shifted entering i slot rank j p ⌝ }
+{
+    if entering {
+        return after_insert(i, slot, rank, j, p);
+    }
+    after_take_out(i, slot, rank, j, p)
 }
 
 fn read_position(t: &[u8], at: usize) -> Position
@@ -73,6 +80,29 @@ fn write_position(t: &mut [u8], at: usize, p: Position)
     t[at + 1] = p.rank;
 }
 
+// Record i enters the queue at this rank, or leaves it from there; the positions of the others follow.
+fn shift(
+    t: &mut [u8],
+    stride: usize,
+    place: usize,
+    count: usize,
+    entering: bool,
+    i: usize,
+    slot: u8,
+    rank: u8,
+)
+    requires { ⌜ Shape stride place count (length (now t)) × ((slot < 255) × (entering ≡ true → Room place slot (records count stride (now t)))) ⌝ }
+    ensures { λ _. ⌜ records count stride (now (t .exit)) ≡ mapWithIndex (moved place (shifted entering i slot rank)) (records count stride (now (t .entry))) ⌝ }
+{
+    let mut j = 0;
+    while j < count {
+        let at = j * stride + place;
+        let p = after(entering, i, slot, rank, j, read_position(t, at));
+        write_position(t, at, p);
+        j += 1;
+    }
+}
+
 // Record i is taken out from this rank of the queue: those behind it move up by one.
 pub fn take_out(
     t: &mut [u8],
@@ -86,13 +116,7 @@ pub fn take_out(
     requires { ⌜ Shape stride place count (length (now t)) × (slot < 255) ⌝ }
     ensures { λ _. ⌜ records count stride (now (t .exit)) ≡ mapWithIndex (moved place (takenOut i slot rank)) (records count stride (now (t .entry))) ⌝ }
 {
-    let mut j = 0;
-    while j < count {
-        let at = j * stride + place;
-        let p = after_take_out(i, slot, rank, j, read_position(t, at));
-        write_position(t, at, p);
-        j += 1;
-    }
+    shift(t, stride, place, count, false, i, slot, rank);
 }
 
 // Record i is put in at this rank of the queue: those at it or behind it move back by one. Answers the rank.
@@ -108,13 +132,7 @@ pub fn insert(
     requires { ⌜ Shape stride place count (length (now t)) × ((slot < 255) × Room place slot (records count stride (now t))) ⌝ }
     ensures { λ r. ⌜ (records count stride (now (t .exit)) ≡ mapWithIndex (moved place (inserted i slot rank)) (records count stride (now (t .entry)))) × (r ≡ rank) ⌝ }
 {
-    let mut j = 0;
-    while j < count {
-        let at = j * stride + place;
-        let p = after_insert(i, slot, rank, j, read_position(t, at));
-        write_position(t, at, p);
-        j += 1;
-    }
+    shift(t, stride, place, count, true, i, slot, rank);
     rank
 }
 
@@ -122,7 +140,7 @@ fn is_first(p: Position, slot: u8) -> bool
     requires { ⌜ slot < 255 ⌝ }
     ensures { λ x. ⌜ x ≡ standsAt slot 0 p ⌝ }
 {
-    p.queue == slot + 1 && p.rank == 0
+    (p.queue == slot + 1) & (p.rank == 0)
 }
 
 // The record at rank 0 of the queue, or count.

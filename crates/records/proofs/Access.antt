@@ -1,18 +1,17 @@
 -- Bytes of the tables and fields of the records, for the proofs of code that reads and writes bytes. Assumes nothing.
-use Prim.Native.Nat.{ℕ, zero, suc, _+_, _-_, _*_, _/_, _%_, _≤_, _<_}
+use Prim.Native.Nat.{ℕ, zero, suc, _+_, _*_, _/_, _%_, _<_}
 use native.Mathlib.Omega.{arith}
 use native.Mathlib.Nat.{not-suc-le-zero}
-use mathlib.Core.Path.{_≡_, refl, sym, ap, ap₂, _∙_, subst}
+use mathlib.Core.Path.{_≡_, refl, ap, ap₂, _∙_}
 use mathlib.Core.Bool.{Bool, true, false}
-use mathlib.Core.List.{List, [], _∷_, _++_, map}
+use mathlib.Core.List.{List, [], _∷_, map}
 use lib.Count.{ones, onesIn, ones-step}
-use Rattle.ranks.proofs.Table.{length-records, at-records, byte-slice}
+use Rattle.ranks.proofs.Table.{length-records, at-records}
 use Rattle.ranks.specs.Lists.{mask, count}
-use Rattle.records.specs.Records.{Queue, Buffer, Task, State, queueAt, bufferAt, taskAt, freeQueue, freeBuffer, freshTask}
-use Rattle.ranks.specs.Table.{slice, byte, records}
+use Rattle.records.specs.Records.{queueAt, bufferAt, taskAt, freeQueue, freeBuffer, freshTask}
+use Rattle.ranks.specs.Table.{slice, records}
 use Rattle.records.specs.Bytes.{decodeQueue, decodeBuffer, decodeTask, Tables, decode}
-use lib.ListN.{length, getD, take, drop, set}
-use lib.Seq.{drop-drop, getD-drop, getD-take, take-set-le, take-set-lt, drop-set-lt, drop-set-add}
+use lib.ListN.{length, getD}
 
 -- ---- Reading
 
@@ -38,15 +37,6 @@ unfolding decode
 task-at t k h =
     at-map decodeTask (records 32 136 (t .tasks)) k [] (freshTask 1) (omega (arith, length-records 32 136 (t .tasks)))
     ∙ ap decodeTask (at-records 32 136 (t .tasks) k h)
-
--- two fields, as the code reads them
-pub task-state : (t : Tables) (k : ℕ) → k < 32 → taskAt (decode t) k .state ≡ getD (t .tasks) (k * 136 + 0) 0
-unfolding decodeTask
-task-state t k h = ap (λ (w : Task). w .state) (task-at t k h) ∙ byte-slice (k * 136) 136 (t .tasks) 0 (omega arith)
-
-pub task-rank : (t : Tables) (k : ℕ) → k < 32 → taskAt (decode t) k .position .rank ≡ getD (t .tasks) (k * 136 + 2) 0
-unfolding decodeTask
-task-rank t k h = ap (λ (w : Task). w .position .rank) (task-at t k h) ∙ byte-slice (k * 136) 136 (t .tasks) 2 (omega arith)
 
 -- ---- A mask and its ones
 

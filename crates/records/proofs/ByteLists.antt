@@ -1,16 +1,15 @@
 -- Lists of bytes, and records in range encode into bytes. Assumes nothing.
-use Prim.Native.Nat.{ℕ, zero, suc, _+_, _/_, _%_, _<_}
+use Prim.Native.Nat.{ℕ, zero, suc, _/_, _<_}
 use native.Mathlib.Nat.{not-suc-le-zero}
 use native.Mathlib.Omega.{arith}
-use mathlib.Core.Path.{_≡_, refl, sym, subst}
+use mathlib.Core.Path.{_≡_, refl}
 use mathlib.Core.Bool.{Bool, true, false, false≢true}
 use mathlib.Core.List.{List, [], _∷_, _++_, map, flatten}
 use lib.Dec.{ltb}
-use lib.ListN.{length, getD, take, drop, replicate, length-drop, length-take}
-use lib.Seq.{getD-drop}
+use lib.ListN.{length, getD, take, drop, replicate}
 use borrow.Author.Tests.{ltb-true}
 use Rattle.ranks.specs.Lists.{all}
-use Rattle.records.specs.Bytes.{toLittleEndian, encodeQueue, encodeBuffer, encodeTask, Tables, encode}
+use Rattle.records.specs.Bytes.{toLittleEndian, encodeQueue, encodeBuffer, encodeTask, encode}
 use Rattle.records.specs.Records.{Queue, Buffer, Task, State, freeQueue, freeBuffer, freshTask}
 use Rattle.records.specs.InRange.{AllBytes, QueueInRange, BufferInRange, TaskInRange, FieldsInRange}
 use Rattle.records.proofs.DecodeEncode.{Each, each-of}

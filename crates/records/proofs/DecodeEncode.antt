@@ -1,15 +1,14 @@
 -- A record is the record of its bytes, if its fields fit. Assumes nothing.
-use Prim.Native.Nat.{ℕ, zero, suc, _+_, _-_, _*_, _/_, _%_, _^_, _≤_, _<_}
+use Prim.Native.Nat.{ℕ, zero, suc, _+_, _*_, _/_, _^_, _<_}
 use native.Mathlib.Omega.{arith}
-use native.Mathlib.Nat.{not-suc-le-zero, div-add-mod', div-lt-iff-lt-mul, pow-suc}
-use mathlib.Core.Path.{_≡_, refl, sym, ap, ap₂, _∙_, subst}
+use native.Mathlib.Nat.{not-suc-le-zero, div-lt-iff-lt-mul, pow-suc}
+use mathlib.Core.Path.{_≡_, refl, ap, ap₂, _∙_, subst}
 use mathlib.Core.List.{List, [], _∷_, _++_, map, flatten, append-assoc}
-use lib.ListN.{length, getD, take, drop, length-append, length-map}
+use lib.ListN.{length, getD, take, drop, length-append}
 use lib.Seq.{take-all, take-at, drop-at, drop-append-add}
-use Rattle.ranks.specs.Position.{Position}
-use Rattle.records.specs.Records.{Queue, Buffer, Task, State}
-use Rattle.records.specs.Bytes.{fromLittleEndian, toLittleEndian, decodeQueue, encodeQueue, decodeBuffer, encodeBuffer, decodeTask, encodeTask, decode, encode, Tables}
-use Rattle.ranks.specs.Table.{slice, byte, records}
+use Rattle.records.specs.Records.{Queue, Buffer, Task}
+use Rattle.records.specs.Bytes.{fromLittleEndian, toLittleEndian, decodeQueue, encodeQueue, decodeBuffer, encodeBuffer, decodeTask, encodeTask}
+use Rattle.ranks.specs.Table.{slice, records}
 
 -- ---- Numbers
 

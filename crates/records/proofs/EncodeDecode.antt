@@ -1,15 +1,13 @@
 -- Byte tables of the right lengths are the bytes of their records, sound or not. Assumes nothing.
-use Prim.Native.Nat.{ℕ, zero, suc, _+_, _-_, _*_, _/_, _%_, _≤_, _<_}
+use Prim.Native.Nat.{ℕ, zero, suc, _+_, _*_, _/_, _%_, _≤_, _<_}
 use native.Mathlib.Omega.{arith}
-use native.Mathlib.Nat.{not-suc-le-zero}
 use mathlib.Core.Path.{_≡_, refl, sym, ap, ap₂, _∙_, subst}
-use mathlib.Core.Bool.{Bool, true, false, _&&_}
-use mathlib.Core.List.{List, [], _∷_, _++_, map, flatten, append-assoc, append-nil}
+use mathlib.Core.Bool.{true, _&&_}
+use mathlib.Core.List.{List, [], _∷_, _++_, map, flatten, append-assoc}
 use lib.Dec.{eqb}
-use lib.ListN.{length, getD, take, drop, take-append-drop, length-drop, length-take}
-use lib.Seq.{take-all, drop-cons, drop-drop, getD-drop, getD-take, drop-length}
+use lib.ListN.{length, take, drop, take-append-drop, length-drop, length-take}
+use lib.Seq.{take-all, drop-cons, drop-drop}
 use borrow.Author.Tests.{eqb-true}
-use Rattle.records.specs.Records.{State}
 use Rattle.records.proofs.ByteLists.{bytes-head, bytes-tail, bytes-take, bytes-drop}
 use Rattle.records.specs.InRange.{AllBytes, ByteTables}
 use Rattle.records.specs.Bytes.{fromLittleEndian, toLittleEndian, decodeQueue, encodeQueue, decodeBuffer, encodeBuffer, decodeTask, encodeTask, Tables, decode, encode, rightLengths}

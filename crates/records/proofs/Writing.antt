@@ -45,9 +45,11 @@ unfolding fromLittleEndian
 half-number r i h = rw (two r i h) (omega arith)
 
 pub word-number : (r : List ℕ) (i : ℕ) → i + 4 ≤ length r
-    → byte i r + 256 * byte (i + 1) r + 65536 * byte (i + 2) r + 16777216 * byte (i + 3) r ≡ fromLittleEndian (slice i 4 r)
+    → fromLittleEndian (slice i 2 r) + 65536 * fromLittleEndian (slice (i + 2) 2 r) ≡ fromLittleEndian (slice i 4 r)
 unfolding fromLittleEndian
-word-number r i h = rw (four r i h) (omega arith)
+word-number r i h =
+    let e : i + 2 + 1 ≡ i + 3 = omega arith in
+    rw (two r i (omega arith), two r (i + 2) (omega arith), four r i h, e) (omega arith)
 
 -- two and four bytes one by one
 pub all-two : (l : List ℕ) → length l ≡ 2 → l ≡ byte 0 l ∷ byte 1 l ∷ []
@@ -57,6 +59,11 @@ all-two l e = sym (take-all 2 l (omega arith)) ∙ two l 0 (omega arith)
 pub all-four : (l : List ℕ) → length l ≡ 4 → l ≡ byte 0 l ∷ byte 1 l ∷ byte 2 l ∷ byte 3 l ∷ []
 unfolding slice
 all-four l e = sym (take-all 4 l (omega arith)) ∙ four l 0 (omega arith)
+
+-- a part lent, as the borrow checker says it
+pub slice-lent : (t : List ℕ) (a n : ℕ) → take (a + n - a) (drop a t) ≡ slice a n t
+unfolding slice
+slice-lent t a n = ap (λ (k : ℕ). take k (drop a t)) (let e : a + n - a ≡ n = omega arith in e)
 
 -- ---- One record of a table
 
@@ -75,12 +82,19 @@ map-set f [] i a = refl
 map-set f (x ∷ l) zero a = refl
 map-set f (x ∷ l) (suc i) a = ap (λ (t : List _). f x ∷ t) (map-set f l i a)
 
+pub length-decoded : {A : Type 0} (read : List ℕ → A) (k n : ℕ) (t : List ℕ) → length (map read (records k n t)) ≡ k
+length-decoded read k n t = length-map (records k n t) read ∙ length-records k n t
+
 module _ {A : Type 0} (read : List ℕ → A) (k n : ℕ) (t : List ℕ) (i : ℕ) (hi : i < k) (d : A) where
   pub length-table : length (map read (records k n t)) ≡ k
-  length-table = length-map (records k n t) read ∙ length-records k n t
+  length-table = length-decoded read k n t
 
   pub at-table : getD (map read (records k n t)) i d ≡ read (slice (i * n) n t)
   at-table = at-map read (records k n t) i [] d (omega (arith, length-records k n t)) ∙ ap read (at-records k n t i hi)
+
+  -- the record as the borrow checker says it where it is lent
+  pub at-lent : getD (map read (records k n t)) i d ≡ read (take (i * n + n - i * n) (drop (i * n) t))
+  at-lent = at-table ∙ ap read (sym (slice-lent t (i * n) n))
 
   -- record i is written over with bytes that read as `f` of it
   pub table-put : (r : List ℕ) (f : A → A) → length r ≡ n → i * n + n ≤ length t → read r ≡ f (read (slice (i * n) n t))
@@ -215,11 +229,6 @@ module _ (r m : List ℕ) (long : length r ≡ 136) (short : length m ≤ 120) w
         (omega (arith, length-append m (drop (length m) (drop 16 r)), length-drop (length m) (drop 16 r), length-drop 16 r))
         ∙ ap (λ (l : List ℕ). m ++ drop (length m) l) (sym (take-all 120 (drop 16 r) (omega (arith, length-drop 16 r))))) i;
   }
-
--- a part lent, as the borrow checker says it
-pub slice-lent : (t : List ℕ) (a n : ℕ) → take (a + n - a) (drop a t) ≡ slice a n t
-unfolding slice
-slice-lent t a n = ap (λ (k : ℕ). take k (drop a t)) (let e : a + n - a ≡ n = omega arith in e)
 
 -- a part lent and handed back, as the borrow checker says it
 pub slice-back : (t r : List ℕ) (a e : ℕ) → a ≤ e → length r ≡ e - a → take a t ++ (r ++ drop (e - a) (drop a t)) ≡ spliced t a r

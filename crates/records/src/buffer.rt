@@ -34,6 +34,6 @@ pub fn clear_buffer(pool: &mut [u8], b: usize)
     requires { ⌜ (length (now pool) ≡ 8192) × (b < 64) ⌝ }
     ensures { λ _. ⌜ decodePool (now (pool .exit)) ≡ mapWithIndex (atIndex b (λ _. freeBuffer)) (decodePool (now (pool .entry))) ⌝ }
 {
-    let r = [0u8; 128];
-    copy_into(pool, b * 128, &r);
+    let zeros = [0u8; 128];
+    copy_into(pool, b * 128, &zeros);
 }

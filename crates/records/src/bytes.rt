@@ -11,12 +11,6 @@ fn wide16(b: u8) -> u16
     b as u16
 }
 
-fn wide32(b: u8) -> u32
-    ensures { λ r. ⌜ (r ≡ b) × (r < 256) ⌝ }
-{
-    b as u32
-}
-
 pub fn wide(b: u8) -> usize
     ensures { λ r. ⌜ (r ≡ b) × (r < 256) ⌝ }
 {
@@ -36,10 +30,9 @@ pub fn read_u32(t: &[u8], at: usize) -> u32
     requires { ⌜ at + 4 ≤ length (now t) ⌝ }
     ensures { λ r. ⌜ r ≡ fromLittleEndian (slice at 4 (now (t .entry))) ⌝ }
 {
-    wide32(t[at])
-        + 256 * wide32(t[at + 1])
-        + 65536 * wide32(t[at + 2])
-        + 16777216 * wide32(t[at + 3])
+    let low = read_u16(t, at) as u32;
+    let high = read_u16(t, at + 2) as u32;
+    low + 65536 * high
 }
 
 // Copies src into t from place i on.

@@ -3,11 +3,10 @@ ghost use mathlib.Core.Path.{_≡_};
 ghost use Prim.Native.Nat.{_<_};
 ghost use lib.Dec.{eqb};
 ghost use Rattle.records.specs.Split.{shareOfSlot, shareOfBuffer, shareOfTask, firstBuffer, shareLimit};
-use crate::bytes::wide;
 
-const SHARE_OF_SLOT: [u8; 16] = [0, 0, 0, 0, 1, 1, 1, 1, 2, 2, 2, 2, 3, 3, 3, 3];
+const SHARE_OF_SLOT: [usize; 16] = [0, 0, 0, 0, 1, 1, 1, 1, 2, 2, 2, 2, 3, 3, 3, 3];
 
-const SHARE_OF_TASK: [u8; 32] = [
+const SHARE_OF_TASK: [usize; 32] = [
     0,
     0,
     0,
@@ -42,96 +41,22 @@ const SHARE_OF_TASK: [u8; 32] = [
     3,
 ];
 
-const SHARE_OF_BUFFER: [u8; 64] = [
-    0,
-    0,
-    0,
-    0,
-    0,
-    0,
-    0,
-    0,
-    0,
-    0,
-    0,
-    0,
-    0,
-    0,
-    0,
-    0,
-    1,
-    1,
-    1,
-    1,
-    1,
-    1,
-    1,
-    1,
-    1,
-    1,
-    1,
-    1,
-    1,
-    1,
-    1,
-    1,
-    2,
-    2,
-    2,
-    2,
-    2,
-    2,
-    2,
-    2,
-    2,
-    2,
-    2,
-    2,
-    2,
-    2,
-    2,
-    2,
-    3,
-    3,
-    3,
-    3,
-    3,
-    3,
-    3,
-    3,
-    3,
-    3,
-    3,
-    3,
-    3,
-    3,
-    3,
-    3,
-];
+const FIRST_BUFFER: [usize; 4] = [0, 16, 32, 48];
 
-const FIRST_BUFFER: [u8; 4] = [0, 16, 32, 48];
-
-const SHARE_LIMIT: [u8; 4] = [16, 16, 16, 16];
+const SHARE_LIMIT: [usize; 4] = [16, 16, 16, 16];
 
 pub fn share_of_slot(slot: usize) -> usize
     requires { ⌜ slot < 16 ⌝ }
     ensures { λ r. ⌜ r ≡ shareOfSlot slot ⌝ }
 {
-    wide(SHARE_OF_SLOT[slot])
+    SHARE_OF_SLOT[slot]
 }
 
 pub fn share_of_task(task: usize) -> usize
     requires { ⌜ task < 32 ⌝ }
     ensures { λ r. ⌜ r ≡ shareOfTask task ⌝ }
 {
-    wide(SHARE_OF_TASK[task])
-}
-
-pub fn share_of_buffer(b: usize) -> usize
-    requires { ⌜ b < 64 ⌝ }
-    ensures { λ r. ⌜ r ≡ shareOfBuffer b ⌝ }
-{
-    wide(SHARE_OF_BUFFER[b])
+    SHARE_OF_TASK[task]
 }
 
 // The first buffer of the share.
@@ -139,7 +64,7 @@ pub fn first_buffer(share: usize) -> usize
     requires { ⌜ share < 4 ⌝ }
     ensures { λ r. ⌜ r ≡ firstBuffer share ⌝ }
 {
-    wide(FIRST_BUFFER[share])
+    FIRST_BUFFER[share]
 }
 
 // How many buffers the share has, which bounds its limits.
@@ -147,7 +72,7 @@ pub fn share_limit(share: usize) -> usize
     requires { ⌜ share < 4 ⌝ }
     ensures { λ r. ⌜ r ≡ shareLimit share ⌝ }
 {
-    wide(SHARE_LIMIT[share])
+    SHARE_LIMIT[share]
 }
 
 // The share owns the buffer.

@@ -1,33 +1,20 @@
--- A search from the front: what is left to look at decides. Zero bytes, sums and tests of all records. Assumes nothing.
-use Prim.Native.Nat.{ℕ, zero, suc, _+_, _-_, _*_, _≤_, _<_}
+-- A search from the front: what is left to look at decides. Zero bytes and sums. Assumes nothing.
+use Prim.Native.Nat.{ℕ, zero, suc, _+_, _-_, _≤_, _<_}
 use native.Mathlib.Nat.{add-zero}
 use native.Mathlib.Numerals.{add-one}
 use native.Mathlib.Omega.{arith}
-use mathlib.Core.Path.{_≡_, refl, sym, ap, _∙_}
-use mathlib.Core.Bool.{Bool, true, false, _&&_, and-true, and-assoc}
-use mathlib.Core.List.{List, [], _∷_, map}
+use mathlib.Core.Path.{_≡_, sym, ap, _∙_}
+use mathlib.Core.Bool.{Bool, _&&_, and-true, and-assoc}
+use mathlib.Core.List.{List, [], _∷_}
 use lib.Dec.{eqb}
-use lib.ListN.{length, getD, take, drop, length-map, drop-of-length-le}
+use lib.ListN.{length, getD, take, drop, drop-of-length-le}
 use lib.Seq.{drop-cons, drop-drop, take-nil}
-use Rattle.ranks.specs.Lists.{all, allZero, every, sum, mapWithIndex}
-use Rattle.ranks.specs.Table.{slice, byte, records}
-use Rattle.ranks.proofs.Lists.{all-more, all-stop, all-end, at-mapped, length-mapped}
-use Rattle.ranks.proofs.Table.{length-records}
-use Rattle.records.proofs.Writing.{all-four, at-table}
+use Rattle.ranks.specs.Lists.{allZero, sum}
+use Rattle.ranks.proofs.Lists.{zeros-cons, zeros-nil}
+use Rattle.ranks.specs.Table.{slice, byte}
+use Rattle.records.proofs.Writing.{all-four}
 
 -- ---- Zero bytes
-
-zeros-cons : (n : ℕ) (ns : List ℕ) → allZero (n ∷ ns) ≡ eqb n 0 && allZero ns
-unfolding allZero
-zeros-cons n ns = go (eqb n 0)
-  where
-    go : (b : Bool) → (elim b [ true ↦ allZero ns | false ↦ false ]) ≡ b && allZero ns
-    go true = refl
-    go false = refl
-
-zeros-nil : allZero [] ≡ true
-unfolding allZero
-zeros-nil = refl
 
 pub zeros-four : (l : List ℕ) → length l ≡ 4 → (eqb (byte 0 l) 0 && eqb (byte 1 l) 0 && eqb (byte 2 l) 0 && eqb (byte 3 l) 0) ≡ allZero l
 zeros-four l e = sym (ap allZero (all-four l e) ∙ spell (byte 0 l) (byte 1 l) (byte 2 l) (byte 3 l))
@@ -67,38 +54,6 @@ module _ (l : List ℕ) where
   unfolding sum
   sum-end i n h inv = sym (add-zero n) ∙ ap (λ (k : List ℕ). n + sum k) (sym (drop-of-length-le l h)) ∙ inv
 
--- ---- A test of all records
-
-module _ {A : Type 0} (f : ℕ → A → Bool) (l : List A) (d : A) where
-  -- the records below i pass
-  abbrev pub Passed : ℕ → Type 0
-  Passed i = all (mapWithIndex f l) ≡ all (drop i (mapWithIndex f l))
-
-  module _ (i : ℕ) (inv : Passed i) where
-    pub pass : i < length l → (x : A) → getD l i d ≡ x → f i x ≡ true → Passed (i + 1)
-    pass h x e p = all-more (mapWithIndex f l) i inv (omega (arith, length-mapped f l)) (at-mapped f l i d false h ∙ ap (f i) e ∙ p)
-
-    pub stop : i < length l → (x : A) → getD l i d ≡ x → f i x ≡ false → false ≡ all (mapWithIndex f l)
-    stop h x e p = all-stop (mapWithIndex f l) i inv (omega (arith, length-mapped f l)) (at-mapped f l i d false h ∙ ap (f i) e ∙ p)
-
-    pub end : i ≡ length l → true ≡ all (mapWithIndex f l)
-    end h = all-end (mapWithIndex f l) i inv (h ∙ sym (length-mapped f l))
-
-pub length-decoded : {A : Type 0} (read : List ℕ → A) (k n : ℕ) (t : List ℕ) → length (map read (records k n t)) ≡ k
-length-decoded read k n t = length-map (records k n t) read ∙ length-records k n t
-
--- the same of the records of a table; x is what was read of record i
-module _ {A : Type 0} (read : List ℕ → A) (k n : ℕ) (t : List ℕ) (d : A) (f : ℕ → A → Bool) where
-  module _ (i : ℕ) (inv : Passed f (map read (records k n t)) d i) where
-    pub pass-record : i < k → (x : A) → x ≡ read (slice (i * n) n t) → f i x ≡ true → Passed f (map read (records k n t)) d (i + 1)
-    pass-record h x e = pass f (map read (records k n t)) d i inv (omega (arith, length-decoded read k n t)) x (at-table read k n t i h d ∙ sym e)
-
-    pub stop-record : i < k → (x : A) → x ≡ read (slice (i * n) n t) → f i x ≡ false → false ≡ every f (map read (records k n t))
-    stop-record h x e = stop f (map read (records k n t)) d i inv (omega (arith, length-decoded read k n t)) x (at-table read k n t i h d ∙ sym e)
-
-    pub end-record : i ≡ k → true ≡ every f (map read (records k n t))
-    end-record h = end f (map read (records k n t)) d i inv (h ∙ sym (length-decoded read k n t))
-
 -- ---- Parts of a record
 
 drop-take : {A : Type 0} (m k : ℕ) (l : List A) → drop m (take k l) ≡ take (k - m) (drop m l)
@@ -113,8 +68,3 @@ unfolding slice
 after-message r m =
     sym (drop-take m 120 (drop 8 r) ∙ ap (take (120 - m)) (drop-drop m 8 r)
     ∙ ap (λ (n : ℕ). take n (drop (8 + m) r)) (let e : 120 - m ≡ 128 - (8 + m) = omega arith in e))
-
--- a record lent, as the borrow checker says it
-pub record-lent : (i n : ℕ) (t : List ℕ) → take (i * n + n - i * n) (drop (i * n) t) ≡ slice (i * n) n t
-unfolding slice
-record-lent i n t = ap (λ (k : ℕ). take k (drop (i * n) t)) (let e : i * n + n - i * n ≡ n = omega arith in e)

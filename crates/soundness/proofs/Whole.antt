@@ -18,8 +18,8 @@ use Rattle.records.specs.Bytes.{decodeBuffer, decodeQueues, decodePool, decodeT
 use Rattle.records.proofs.Tabled.{slot-share-below, buffers-end, share-buffers}
 use Rattle.specification.specs.Sound.{soundQueue, limits, soundLimits, soundBuffer, soundRanks, byPriority, soundTask, sound}
 use Rattle.specification.proofs.Rules.{Unused, Used, buffer-rules}
+use Rattle.records.proofs.Writing.{length-decoded}
 use Rattle.soundness.specs.Parts.{onlyQueues, onlyTasks, positions, partStart, partSize, Among, queueRanked, queueInOrder}
-use Rattle.soundness.proofs.Searched.{length-decoded}
 use Rattle.soundness.proofs.Ranks.{length-positions}
 use Rattle.soundness.proofs.Orders.{positions-decoded, task-positions}
 

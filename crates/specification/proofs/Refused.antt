@@ -1,10 +1,14 @@
 -- An outcome is a refusal, or the effect with every reason to refuse false. Assumes nothing.
 use Prim.Native.Nat.{ℕ}
-use mathlib.Core.Path.{_≡_, refl}
+use native.Mathlib.Omega.{arith}
+use mathlib.Core.Path.{_≡_, refl, _∙_}
 use mathlib.Core.Bool.{Bool, true, false}
-use mathlib.Core.List.{List, [], _∷_, _++_}
-use Rattle.ranks.specs.Lists.{if_then_else_}
-use Rattle.specification.specs.Answer.{Outcome, Refusal, refuse, refuseIfAny}
+use mathlib.Core.List.{List, [], _∷_, _++_, map}
+use lib.Dec.{leb}
+use borrow.Author.Tests.{leb-true}
+use Rattle.ranks.specs.Lists.{if_then_else_, all}
+use Rattle.ranks.proofs.Lists.{holds, held}
+use Rattle.specification.specs.Answer.{Outcome, Refusal, refuse, refuseIfAny, firstStatus}
 
 -- no reason to refuse holds
 abbrev pub None : List Refusal → Type 0
@@ -49,3 +53,32 @@ none-left (r ∷ rs) rs′ n = (n .0, none-left rs rs′ (n .1))
 pub none-right : (rs rs′ : List Refusal) → None (rs ++ rs′) → None rs′
 none-right [] rs′ n = n
 none-right (r ∷ rs) rs′ n = none-right rs rs′ (n .1)
+
+-- ---- The first status
+
+-- every reason has a status that is not 0
+abbrev pub Numbered : List Refusal → Type 0
+Numbered rs = all (map (λ r. leb 1 (r .status)) rs) ≡ true
+
+-- where the first status is 0, no reason holds
+pub none-holds : (rs : List Refusal) → Numbered rs → 0 ≡ firstStatus rs → None rs
+unfolding firstStatus all
+none-holds [] k e = tt
+none-holds (r ∷ rs) k e = go (r .holds) refl (none-holds rs (numbers .1))
+  where
+    numbers : (leb 1 (r .status) ≡ true) × Numbered rs
+    numbers = let both = holds (leb 1 (r .status) ∷ map (λ x. leb 1 (x .status)) rs) k in (both .0, held (map (λ x. leb 1 (x .status)) rs) (both .1))
+
+    go : (b : Bool) → r .holds ≡ b → (0 ≡ firstStatus rs → None rs) → None (r ∷ rs)
+    go true h later = let none : 0 ≡ r .status = e ∙ rw h refl in absurd (omega (arith, none, leb-true 1 (r .status) (numbers .0)))
+    go false h later = (h, later (e ∙ rw h refl))
+
+-- where it is not 0, the outcome is the refusal with it
+pub refused-first : {S : Type 0} (s : S) (rs : List Refusal) (effect : Outcome S) (n : ℕ) → n ≡ firstStatus rs → (n ≡ 0 → ⊥) → refuse s n ≡ refuseIfAny s rs effect
+unfolding firstStatus refuseIfAny
+refused-first s [] effect n e ne = absurd (ne e)
+refused-first s (r ∷ rs) effect n e ne = go (r .holds) refl (λ f. refused-first s rs effect n f ne)
+  where
+    go : (b : Bool) → r .holds ≡ b → (n ≡ firstStatus rs → refuse s n ≡ refuseIfAny s rs effect) → refuse s n ≡ refuseIfAny s (r ∷ rs) effect
+    go true h later = let same : n ≡ r .status = e ∙ rw h refl in rw (h, same)
+    go false h later = rw h (later (e ∙ rw h refl))

@@ -33,3 +33,8 @@ _⇒_ holds status = record { holds = holds; status = status }
 unfoldable pub refuseIfAny : {S : Type 0} → S → List Refusal → Outcome S → Outcome S
 refuseIfAny s [] effect = effect
 refuseIfAny s (r ∷ rs) effect = if r .holds then refuse s (r .status) else refuseIfAny s rs effect
+
+-- The status of the first reason that holds; 0 where none does.
+unfoldable pub firstStatus : List Refusal → ℕ
+firstStatus [] = 0
+firstStatus (r ∷ rs) = if r .holds then r .status else firstStatus rs

@@ -3,7 +3,7 @@ use Rattle.ranks.specs.Prelude.{ℕ, suc, _-_, true, false, _&&_, not, List, []
 use Rattle.ranks.specs.Lists.{if_then_else_, mapWithIndex, minimum}
 use Rattle.ranks.specs.Position.{positionAt, inQueue}
 use Rattle.ranks.specs.Steps.{inserted, takenOut}
-use Rattle.records.specs.Records.{State, hasPriority, messageIn, freeBuffer, queueAt, bufferAt, taskAt}
+use Rattle.records.specs.Records.{Task, State, hasPriority, messageIn, freeBuffer, queueAt, bufferAt, taskAt}
 use Rattle.records.specs.Changes.{atIndex, withPending, withWaiters, moveBuffer, withMessage, moveTask, waitingAt}
 use Rattle.records.specs.Status.{SUCCESSFUL, UNSATISFIED, WAITING, INVALID-OPTION}
 use Rattle.specification.specs.Answer.{Outcome, outcome, Refusal, _⇒_}
@@ -24,15 +24,16 @@ received s caller slot b =
       tasks = mapWithIndex (atIndex caller (withMessage (messageIn m))) (s .tasks);
     })
 
+-- the rank of a task that waits in the queue of the slot and is less urgent than the priority, else the rear
+abbrev pub rankBehind : (slot priority rear : ℕ) → Task → ℕ
+rankBehind slot priority rear w = if inQueue slot (w .position) && ltb priority (w .priority) then w .position .rank else rear
+
 -- "at the rear, or with PRIORITY behind all of equal or smaller number": at the least rank of a waiter of greater number, if there is one
 unfoldable pub waitRank : State → (caller slot : ℕ) → ℕ
 waitRank s caller slot =
     let q = queueAt s slot in
     if hasPriority q
-    then minimum (q .waiters)
-    (mapWithIndex
-    (λ j w. if inQueue slot (w .position) && ltb (taskAt s caller .priority) (w .priority) then w .position .rank else q .waiters)
-    (s .tasks))
+    then minimum (q .waiters) (mapWithIndex (λ j w. rankBehind slot (taskAt s caller .priority) (q .waiters) w) (s .tasks))
     else q .waiters
 
 -- "Else the caller waits, status 14, length 0, ticks left as given"

@@ -1,33 +1,29 @@
 -- A caller that waits, and receive, leave sound tables. Assumes nothing.
-use Prim.Native.Nat.{ℕ, zero, suc, pred, _+_, _-_, _%_, _≤_, _<_}
+use Prim.Native.Nat.{ℕ, suc, _-_, _≤_, _<_}
 use native.Mathlib.Omega.{arith}
-use mathlib.Core.Path.{_≡_, refl, sym, ap, ap₂, _∙_, subst}
-use mathlib.Core.Bool.{Bool, true, false, not, _&&_, _||_, false≢true}
+use mathlib.Core.Path.{_≡_, refl, sym, ap, _∙_, subst}
+use mathlib.Core.Bool.{Bool, true, false, _||_}
 use mathlib.Core.Logic.{_⊎_, inl, inr, ⊎-elim}
-use mathlib.Core.List.{List, [], _∷_}
-use lib.Dec.{eqb, leb, ltb}
-use lib.ListN.{length, getD}
-use borrow.Author.Tests.{eqb-true, eqb-false, eq-eqb, ne-eqb, not-false, ltb-true, ltb-false}
-use Rattle.ranks.specs.Lists.{if_then_else_, mapWithIndex, all}
+use lib.Dec.{eqb}
+use borrow.Author.Tests.{ne-eqb, ltb-true, ltb-false}
+use Rattle.ranks.specs.Lists.{if_then_else_, mapWithIndex}
 use Rattle.records.specs.Layout.{slotOf}
 use Rattle.records.specs.Split.{shareOfSlot, shareOfTask}
-use Rattle.ranks.specs.Position.{Position, noQueue, positionAt}
-use Rattle.records.specs.Records.{Queue, Buffer, Task, State, queueAt, bufferAt, taskAt, freeQueue, freeBuffer, freshTask, hasPriority, isOpen, isWaiting}
+use Rattle.ranks.specs.Position.{Position, positionAt}
+use Rattle.records.specs.Records.{Queue, Task, State, queueAt, bufferAt, taskAt, freshTask, hasPriority, isOpen, isWaiting}
 use Rattle.ranks.specs.Steps.{inserted}
 use Rattle.specification.specs.Sound.{soundTask, taskRules}
-use Rattle.specification.specs.Answer.{Outcome}
 use Rattle.specification.specs.Lookup.{usable, firstMessage, hasMessage}
 use Rattle.specification.specs.Receive.{received, waitRank, waiting, effect}
 use Rattle.records.specs.Changes.{atIndex, waitingAt, moveTask, withWaiters}
 use Rattle.ranks.proofs.Lists.{at-mapped, length-mapped, holds}
 use Rattle.ranks.proofs.Tests.{same?}
-use Rattle.specification.proofs.Rules.{Live, Ready, Waiting, live-sound, task-rules, ready-sound, waiting-sound}
+use Rattle.specification.proofs.Rules.{Live, Ready, Waiting, live-sound, waiting-sound}
 use Rattle.ranks.proofs.Ranks.{Ranked, in-itself, in-moved, insert-all, was, insert-other, Agree, Came, before, after, came-mono}
 use Rattle.specification.proofs.SoundFacts.{Sized, SoundFacts, Ordered}
 use Rattle.theorems.proofs.KeptQueues.{if-at, moved-task, live-waiters, live-of, Same, Kept, waiting-kept, buffer-kept}
-use Rattle.specification.proofs.Refused.{refused-or}
 use Rattle.theorems.proofs.SoundReceive.{is-ready, first-holds, none-held, received-sound, waitRank-bound, ahead-of, behind-of}
-use Rattle.theorems.proofs.SoundSubmit.{slot-below, usable-live, own-rules}
+use Rattle.theorems.proofs.SoundSubmit.{own-rules}
 use Rattle.theorems.proofs.CountChange
 
 module _ (s : State) (g : SoundFacts s) (caller slot ticks : ℕ) (caller< : caller < 32) (slot< : slot < 16) (rdy : Ready (taskAt s caller))
@@ -61,9 +57,6 @@ module _ (s : State) (g : SoundFacts s) (caller slot ticks : ℕ) (caller< : cal
   task-after j h =
       at-mapped (λ j w. if eqb j caller then waitingAt (positionAt slot rank) ticks w else moveTask (inserted caller slot rank j (w .position)) w) (s .tasks) j
       (freshTask 1) (freshTask 1) (omega (arith, g .sized .tasks))
-
-  task-caller : taskAt s′ caller ≡ waitingAt (positionAt slot rank) ticks (taskAt s caller)
-  task-caller = task-after caller caller< ∙ rw (eq-eqb caller caller refl)
 
   task-other : (j : ℕ) → j < 32 → (j ≡ caller → ⊥) → taskAt s′ j ≡ moveTask (inserted caller slot rank j (P j)) (taskAt s j)
   task-other j h ne = task-after j h ∙ rw (ne-eqb j caller ne)

@@ -1,94 +1,14 @@
-use mathlib.Core.Path.{_≡_, refl, sym, ap, _∙_, subst}
-use Prim.Native.Nat.{ℕ, _≤_, _<_, _+_, _*_, _-_}
-use native.Mathlib.Omega.{arith}
-use mathlib.Core.List.{[]}
-use lib.ListN.{length}
-use Rattle.ranks.specs.Table.{records, moved}
-use Rattle.ranks.specs.Steps.{takenOut}
-use Rattle.ranks.proofs.Lists.{upTo, upTo-none, upTo-all}
-use Rattle.ranks.proofs.Table.{length-records, inside, moved-turn, position-still}
+-- `ranks::take_out` meets its contract. Assumes nothing.
+use mathlib.Core.Bool.{false≢true}
 use borrow.Author.Needs.{needs}
 use Rattle.ranks.proofs.take_out.Statement.{statement}
 use Rattle.ranks.proofs.take_out.Tie as tie
-use Rattle.ranks.proofs.take_out.Reads as reads
-use Rattle.ranks.proofs.take_out.Lts as lts
-use Rattle.ranks.proofs.read_position.Reads as read-position-reads
-use Rattle.ranks.proofs.write_position.Reads as write-position-reads
-use Rattle.ranks.proofs.after_take_out.Reads as after-take-out-reads
 
-abbrev Inv-loop : tie.InvT-loop
-Inv-loop t₀ stride place count i slot rank j₀ t j = (j ≤ count) × ((length t ≡ length t₀) × (records count stride t ≡ upTo (moved place (takenOut i slot rank)) j (records count stride t₀)))
+shift-requires : tie.Need-shift-requires
+shift-requires c κs = (c .before .before .pre .0, (c .before .before .pre .1, λ e. absurd (false≢true e)))
 
-abbrev μ-loop : tie.MeasureT-loop
-μ-loop t₀ stride place count i slot rank j₀ t j = count - j
-
-loop-holds : tie.Need-loop-holds Inv-loop μ-loop
-loop-holds c =
-    let a = c .before .args in
-    (search needs, (refl, upTo-none (moved (a .place) (takenOut (a .i) (a .slot) (a .rank))) (records (a .count) (a .stride) (a .t .now)) []))
-
-mul-at : tie.Need-mul-at Inv-loop μ-loop
-mul-at c = omega (arith, inside (c .before .before .before .pre .0) (c .before .loop .j) (c .loop-test .taken))
-
-add-at : tie.Need-add-at Inv-loop μ-loop
-add-at c = omega (arith, inside (c .before .before .before .pre .0) (c .before .loop .j) (c .loop-test .taken), c .before .before .before .pre .0 .inside)
-
-read-position-requires : tie.Need-read-position-requires Inv-loop μ-loop
-read-position-requires c κs = omega (arith, inside (c .before .before .before .before .pre .0) (c .before .before .loop .j) (c .before .loop-test .taken), c .before .before .before .before .pre .0 .inside)
-
-after-take-out-requires : tie.Need-after-take-out-requires Inv-loop μ-loop
-after-take-out-requires c κs = search needs
-
-write-position-requires : tie.Need-write-position-requires Inv-loop μ-loop
-write-position-requires c κs = omega (arith, inside (c .before .before .before .before .before .before .before .pre .0) (c .before .before .before .before .before .loop .j) (c .before .before .before .before .loop-test .taken), c .before .before .before .before .before .before .before .pre .0 .inside)
-
-add-j : tie.Need-add-j Inv-loop μ-loop
-add-j c = search needs
-
-loop-less : tie.Need-loop-less Inv-loop μ-loop
-loop-less c = search needs
-
-loop-again : tie.Need-loop-again Inv-loop μ-loop
-loop-again c =
-    let l = c .before .before .before .before .before .before .before in
-    let v = l .before .loop in
-    let s = l .before .before .before in
-    let a = s .args in
-    let put = c .before .before .write-position in
-    let made = c .before .before .before .before .after-take-out in
-    let got = c .before .before .before .before .before .read-position in (
-      omega arith,
-      (
-        put .kept .0 ∙ v .inv .1 .0,
-        moved-turn (a .stride) (a .place) (a .count) (takenOut (a .i) (a .slot) (a .rank)) (a .t .now) (v .t) (rw (v .inv .1 .0) (s .pre .0)) (v .j) (l .loop-test .taken)
-            (v .inv .1 .1) (put .last .0) (made .result) (made .ensures ∙ ap (takenOut (a .i) (a .slot) (a .rank) (v .j)) (got .ensures)) (put .ensures),
-      ),
-    )
-
-same-length : tie.Need-same-length Inv-loop μ-loop
-same-length c = search needs
-
-returns : tie.Need-returns Inv-loop μ-loop
-returns c =
-    let a = c .before .before .before .args in
-    let v = c .before .loop in
-    v .inv .1 .1 ∙ ap (λ (n : ℕ). upTo (moved (a .place) (takenOut (a .i) (a .slot) (a .rank))) n (records (a .count) (a .stride) (a .t .now))) (let e : v .j ≡ a .count = omega arith in e)
-    ∙ upTo-all (moved (a .place) (takenOut (a .i) (a .slot) (a .rank))) (records (a .count) (a .stride) (a .t .now)) [] (a .count) (length-records (a .count) (a .stride) (a .t .now))
+returns : tie.Need-returns
+returns c = search needs
 
 pub take-out-spec : {M : Type 1} → statement M
-take-out-spec =
-    tie.close
-    (tie.spec
-    Inv-loop
-    μ-loop
-    loop-holds
-    mul-at
-    add-at
-    read-position-requires
-    after-take-out-requires
-    write-position-requires
-    add-j
-    loop-less
-    loop-again
-    same-length
-    returns)
+take-out-spec = tie.close (tie.spec shift-requires (search needs) returns)

@@ -12,9 +12,6 @@ returns c =
     let a = c .before .before .before .before .args in
     no-task (tables (a .queues .now) (a .pool .now) (a .tasks .now)) (a .caller) (c .if1 .taken)
 
-read-head-requires : tie.Need-read-head-requires
-read-head-requires c κs = search needs
-
 returns-2 : tie.Need-returns-2
 returns-2 c =
     let a = c .before .before .before .before .before .before .args in
@@ -22,4 +19,4 @@ returns-2 c =
     waits (tables (a .queues .now) (a .pool .now) (a .tasks .now)) (a .caller) (c .before .before .if1 .left) (h .result .state) (ap (λ (x : TaskHead). x .state) (h .ensures))
 
 pub bad-caller-spec : {M : Type 1} → statement M
-bad-caller-spec = tie.close (tie.spec returns read-head-requires returns-2)
+bad-caller-spec = tie.close (tie.spec returns (search needs) returns-2)

@@ -1,20 +1,16 @@
 -- `manager::call::call_refusal` meets its contract. Assumes nothing.
 use mathlib.Core.Path.{sym, _∙_}
 use borrow.Author.Tests.{not-true, not-false}
-use Rattle.manager.specs.Outcomes.{tables}
+use Rattle.specification.specs.Answer.{firstStatus}
 use Rattle.records.proofs.EncodeDecode.{lengths}
-use Rattle.manager.proofs.Calls.{bad-shape, corrupt, bad-caller, none}
+use Rattle.manager.specs.Outcomes.{tables}
 use borrow.Author.Needs.{needs}
 use Rattle.manager.proofs.call.call_refusal.Statement.{statement}
 use Rattle.manager.proofs.call.call_refusal.Tie as tie
 
-right-lengths-requires : tie.Need-right-lengths-requires
-right-lengths-requires c κs = search needs
-
 returns : tie.Need-returns
-returns c =
-    let a = c .before .before .before .before .before .args in
-    bad-shape (tables (a .queues .now) (a .pool .now) (a .tasks .now)) (a .caller) (sym (c .before .right-lengths .ensures) ∙ not-true (c .before .right-lengths .result) (c .if1 .taken))
+unfolding firstStatus
+returns c = rw (sym (c .before .right-lengths .ensures) ∙ not-true (c .before .right-lengths .result) (c .if1 .taken))
 
 is-sound-requires : tie.Need-is-sound-requires
 is-sound-requires c κs =
@@ -23,9 +19,8 @@ is-sound-requires c κs =
     (q, (p, w))
 
 returns-2 : tie.Need-returns-2
-returns-2 c =
-    let a = c .before .before .before .before .before .before .before .args in
-    corrupt (tables (a .queues .now) (a .pool .now) (a .tasks .now)) (a .caller) (sym (c .before .before .before .right-lengths .ensures) ∙ not-false (c .before .before .before .right-lengths .result) (c .before .before .if1 .left)) (sym (c .before .is-sound .ensures) ∙ not-true (c .before .is-sound .result) (c .if2 .taken))
+unfolding firstStatus
+returns-2 c = rw (sym (c .before .before .before .right-lengths .ensures) ∙ not-false (c .before .before .before .right-lengths .result) (c .before .before .if1 .left), sym (c .before .is-sound .ensures) ∙ not-true (c .before .is-sound .result) (c .if2 .taken))
 
 bad-caller-requires : tie.Need-bad-caller-requires
 bad-caller-requires c κs =
@@ -33,23 +28,12 @@ bad-caller-requires c κs =
     lengths (tables (a .queues .now) (a .pool .now) (a .tasks .now)) (sym (c .before .before .before .right-lengths .ensures) ∙ not-false (c .before .before .before .right-lengths .result) (c .before .before .if1 .left)) .2
 
 returns-3 : tie.Need-returns-3
-returns-3 c =
-    let a = c .before .before .before .before .before .before .before .before .before .args in
-    bad-caller (tables (a .queues .now) (a .pool .now) (a .tasks .now)) (a .caller) (sym (c .before .before .before .before .before .right-lengths .ensures) ∙ not-false (c .before .before .before .before .before .right-lengths .result) (c .before .before .before .before .if1 .left)) (sym (c .before .before .before .is-sound .ensures) ∙ not-false (c .before .before .before .is-sound .result) (c .before .before .if2 .left)) (sym (c .before .bad-caller .ensures) ∙ c .if3 .taken)
+unfolding firstStatus
+returns-3 c = rw (sym (c .before .before .before .before .before .right-lengths .ensures) ∙ not-false (c .before .before .before .before .before .right-lengths .result) (c .before .before .before .before .if1 .left), sym (c .before .before .before .is-sound .ensures) ∙ not-false (c .before .before .before .is-sound .result) (c .before .before .if2 .left), sym (c .before .bad-caller .ensures) ∙ c .if3 .taken)
 
 returns-4 : tie.Need-returns-4
-returns-4 c =
-    let a = c .before .before .before .before .before .before .before .before .before .args in
-    none (tables (a .queues .now) (a .pool .now) (a .tasks .now)) (a .caller) (sym (c .before .before .before .before .before .right-lengths .ensures) ∙ not-false (c .before .before .before .before .before .right-lengths .result) (c .before .before .before .before .if1 .left)) (sym (c .before .before .before .is-sound .ensures) ∙ not-false (c .before .before .before .is-sound .result) (c .before .before .if2 .left)) (sym (c .before .bad-caller .ensures) ∙ c .if3 .left)
+unfolding firstStatus
+returns-4 c = rw (sym (c .before .before .before .before .before .right-lengths .ensures) ∙ not-false (c .before .before .before .before .before .right-lengths .result) (c .before .before .before .before .if1 .left), sym (c .before .before .before .is-sound .ensures) ∙ not-false (c .before .before .before .is-sound .result) (c .before .before .if2 .left), sym (c .before .bad-caller .ensures) ∙ c .if3 .left)
 
 pub call-refusal-spec : {M : Type 1} → statement M
-call-refusal-spec =
-    tie.close
-    (tie.spec
-    right-lengths-requires
-    returns
-    is-sound-requires
-    returns-2
-    bad-caller-requires
-    returns-3
-    returns-4)
+call-refusal-spec = tie.close (tie.spec (search needs) returns is-sound-requires returns-2 bad-caller-requires returns-3 returns-4)

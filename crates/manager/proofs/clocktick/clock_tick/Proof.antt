@@ -8,15 +8,6 @@ use borrow.Author.Needs.{needs}
 use Rattle.manager.proofs.clocktick.clock_tick.Statement.{statement}
 use Rattle.manager.proofs.clocktick.clock_tick.Tie as tie
 
-right-lengths-requires : tie.Need-right-lengths-requires
-right-lengths-requires c κs = search needs
-
-same-length : tie.Need-same-length
-same-length c = search needs
-
-same-length-2 : tie.Need-same-length-2
-same-length-2 c = search needs
-
 returns : tie.Need-returns
 returns c =
     let a = c .before .before .before .before .before .before .before .args in
@@ -28,12 +19,6 @@ is-sound-requires c κs =
     let (q, p, w) = lengths (tables (a .queues .now) (a .pool .now) (a .tasks .now)) (sym (c .before .before .before .right-lengths .ensures) ∙ not-false (c .before .before .before .right-lengths .result) (c .before .before .if1 .left)) in
     (q, (p, w))
 
-same-length-3 : tie.Need-same-length-3
-same-length-3 c = search needs
-
-same-length-4 : tie.Need-same-length-4
-same-length-4 c = search needs
-
 returns-2 : tie.Need-returns-2
 returns-2 c =
     let a = c .before .before .before .before .before .before .before .before .before .before .before .args in
@@ -41,12 +26,6 @@ returns-2 c =
 
 tick-requires : tie.Need-tick-requires
 tick-requires c κs = (sym (c .before .before .before .before .before .before .before .right-lengths .ensures) ∙ not-false (c .before .before .before .before .before .before .before .right-lengths .result) (c .before .before .before .before .before .before .if1 .left), sym (c .before .before .before .is-sound .ensures) ∙ not-false (c .before .before .before .is-sound .result) (c .before .before .if2 .left))
-
-same-length-5 : tie.Need-same-length-5
-same-length-5 c = search needs
-
-same-length-6 : tie.Need-same-length-6
-same-length-6 c = search needs
 
 returns-3 : tie.Need-returns-3
 returns-3 c =
@@ -57,15 +36,15 @@ pub clock-tick-spec : {M : Type 1} → statement M
 clock-tick-spec =
     tie.close
     (tie.spec
-    right-lengths-requires
-    same-length
-    same-length-2
+    (search needs)
+    (search needs)
+    (search needs)
     returns
     is-sound-requires
-    same-length-3
-    same-length-4
+    (search needs)
+    (search needs)
     returns-2
     tick-requires
-    same-length-5
-    same-length-6
+    (search needs)
+    (search needs)
     returns-3)

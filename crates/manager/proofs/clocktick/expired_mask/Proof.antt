@@ -6,7 +6,7 @@ use mathlib.Core.Bool.{_&&_}
 use lib.Dec.{eqb}
 use Rattle.records.specs.declared.task.TaskHead.{TaskHead}
 use Rattle.specification.specs.Tick.{expires}
-use Rattle.manager.proofs.Masks.{MaskFrom, mask-none, mask-fits, mask-more, mask-all}
+use Rattle.coremsg.proofs.MaskFolds.{MaskFrom, mask-none, mask-fits, mask-more, mask-all}
 use Rattle.manager.proofs.clocktick.expired_mask.Statement.{statement}
 use Rattle.manager.proofs.clocktick.expired_mask.Tie as tie
 
@@ -21,24 +21,12 @@ loop-holds c =
     let a = c .before .args in
     mask-none expires (a .tasks .now)
 
-sub-t : tie.Need-sub-t Inv-loop μ-loop
-sub-t c = search needs
-
-read-head-requires : tie.Need-read-head-requires Inv-loop μ-loop
-read-head-requires c κs = search needs
-
-expires-requires : tie.Need-expires-requires Inv-loop μ-loop
-expires-requires c κs = search needs
-
 with-bit-requires : tie.Need-with-bit-requires Inv-loop μ-loop
 with-bit-requires c κs =
     let at = c .before .before in
     let v = at .before .loop in
     let a = at .before .before .before .args in
     mask-fits expires (a .tasks .now) (v .m) (v .t) (v .inv) (at .loop-test .taken)
-
-loop-less : tie.Need-loop-less Inv-loop μ-loop
-loop-less c = search needs
 
 loop-again : tie.Need-loop-again Inv-loop μ-loop
 loop-again c =
@@ -60,10 +48,10 @@ expired-mask-spec =
     Inv-loop
     μ-loop
     loop-holds
-    sub-t
-    read-head-requires
-    expires-requires
+    (search needs)
+    (search needs)
+    (search needs)
     with-bit-requires
-    loop-less
+    (search needs)
     loop-again
     returns)

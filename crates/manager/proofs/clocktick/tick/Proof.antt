@@ -35,12 +35,6 @@ tick-task-requires c κs =
     let below = c .before .before .loop-test .taken in
     (below, (v .inv .queuesSize ∙ sizes .0, (v .inv .tasksSize ∙ sizes .2, names-slot (tables (v .queues) (a .pool .now) (v .tasks)) (v .inv .facts) (v .t) below)))
 
-add-t : tie.Need-add-t Inv-loop μ-loop
-add-t c = search needs
-
-loop-less : tie.Need-loop-less Inv-loop μ-loop
-loop-less c = search needs
-
 loop-again : tie.Need-loop-again Inv-loop μ-loop
 loop-again c =
     let at = c .before .before .before .before .before .before .before in
@@ -73,8 +67,8 @@ tick-spec =
     expired-mask-requires
     loop-holds
     tick-task-requires
-    add-t
-    loop-less
+    (search needs)
+    (search needs)
     loop-again
     same-length
     same-length-2

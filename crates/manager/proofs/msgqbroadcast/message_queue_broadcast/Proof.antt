@@ -7,15 +7,6 @@ use borrow.Author.Needs.{needs}
 use Rattle.manager.proofs.msgqbroadcast.message_queue_broadcast.Statement.{statement}
 use Rattle.manager.proofs.msgqbroadcast.message_queue_broadcast.Tie as tie
 
-call-refusal-requires : tie.Need-call-refusal-requires
-call-refusal-requires c κs = search needs
-
-same-length : tie.Need-same-length
-same-length c = search needs
-
-same-length-2 : tie.Need-same-length-2
-same-length-2 c = search needs
-
 returns : tie.Need-returns
 returns c =
     let a = c .before .before .before .before .before .before .before .before .args in
@@ -26,12 +17,6 @@ broadcast-requires c κs =
     let a = c .before .before .before .before .before .before .before .before .before .before .args in
     callable (tables (a .queues .now) (a .pool .now) (a .tasks .now)) (a .caller) (sym (c .before .before .if1 .left) ∙ c .before .before .before .call-refusal .ensures)
 
-same-length-3 : tie.Need-same-length-3
-same-length-3 c = search needs
-
-same-length-4 : tie.Need-same-length-4
-same-length-4 c = search needs
-
 returns-2 : tie.Need-returns-2
 returns-2 c =
     let a = c .before .before .before .before .before .before .before .before .before .before .before .before .before .before .before .args in
@@ -41,11 +26,11 @@ pub message-queue-broadcast-spec : {M : Type 1} → statement M
 message-queue-broadcast-spec =
     tie.close
     (tie.spec
-    call-refusal-requires
-    same-length
-    same-length-2
+    (search needs)
+    (search needs)
+    (search needs)
     returns
     broadcast-requires
-    same-length-3
-    same-length-4
+    (search needs)
+    (search needs)
     returns-2)

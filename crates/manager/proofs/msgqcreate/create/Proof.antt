@@ -25,9 +25,6 @@ refusal-requires c κs =
       (subst (λ (p : ℕ). p < 4) (sym own) (task-share-below (s .args .caller) (caller-ready _ _ _ _ (s .pre) .below)), c .before .free-slot .ensures),
     )
 
-same-length : tie.Need-same-length
-same-length c = search needs
-
 returns : tie.Need-returns
 returns c =
     let a = c .before .before .before .before .before .before .before .before .before .args in
@@ -70,9 +67,6 @@ create-in-requires c κs =
       ),
     )
 
-same-length-2 : tie.Need-same-length-2
-same-length-2 c = search needs
-
 returns-2 : tie.Need-returns-2
 returns-2 c =
     let s = c .before .before .before .before .before .before .before .before .before .before .before .before .before in
@@ -91,11 +85,11 @@ create-spec =
     share-of-task-requires
     free-slot-requires
     refusal-requires
-    same-length
+    (search needs)
     returns
     cast-create-in
     cast-create-in-2
     cast-create-in-3
     create-in-requires
-    same-length-2
+    (search needs)
     returns-2)

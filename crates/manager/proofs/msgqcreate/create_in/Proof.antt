@@ -12,26 +12,11 @@ use borrow.Author.Needs.{needs}
 use Rattle.manager.proofs.msgqcreate.create_in.Statement.{statement}
 use Rattle.manager.proofs.msgqcreate.create_in.Tie as tie
 
-read-queue-requires : tie.Need-read-queue-requires
-read-queue-requires c κs = search needs
-
 add-generation : tie.Need-add-generation
 add-generation c =
     let fresh = c .before .before .before .before .pre .1 .1 in
     let same = ap (λ (q : Queue). q .generation) (c .before .read-queue .ensures) in
     omega (arith, fresh, same)
-
-new-queue-requires : tie.Need-new-queue-requires
-new-queue-requires c κs = search needs
-
-write-queue-requires : tie.Need-write-queue-requires
-write-queue-requires c κs = search needs
-
-id-of-requires : tie.Need-id-of-requires
-id-of-requires c κs = search needs
-
-same-length : tie.Need-same-length
-same-length c = search needs
 
 returns : tie.Need-returns
 returns c =
@@ -50,10 +35,10 @@ pub create-in-spec : {M : Type 1} → statement M
 create-in-spec =
     tie.close
     (tie.spec
-    read-queue-requires
+    (search needs)
     add-generation
-    new-queue-requires
-    write-queue-requires
-    id-of-requires
-    same-length
+    (search needs)
+    (search needs)
+    (search needs)
+    (search needs)
     returns)

@@ -6,7 +6,7 @@ use borrow.Author.Needs.{needs}
 use Rattle.records.specs.Records.{freeQueue}
 use Rattle.records.specs.Bytes.{decodeQueue}
 use Rattle.specification.specs.Create.{isFreeSlot}
-use Rattle.manager.proofs.Searches.{Searched, search-begins, search-finds, search-goes-on, search-ends}
+use Rattle.coremsg.proofs.Searches.{Searched, search-begins, search-finds, search-goes-on, search-ends}
 use Rattle.manager.proofs.msgqcreate.free_slot.Statement.{statement}
 use Rattle.manager.proofs.msgqcreate.free_slot.Tie as tie
 
@@ -19,21 +19,12 @@ abbrev μ-loop : tie.MeasureT-loop
 loop-holds : tie.Need-loop-holds Inv-loop μ-loop
 loop-holds c = search-begins decodeQueue (freeQueue 0) 16 16 (isFreeSlot (c .before .args .share)) (c .before .args .queues .now)
 
-is-free-slot-requires : tie.Need-is-free-slot-requires Inv-loop μ-loop
-is-free-slot-requires c κs = search needs
-
 returns : tie.Need-returns Inv-loop μ-loop
 returns c =
     let v = c .before .before .before .loop in
     let a = c .before .before .before .before .before .args in
     search-finds decodeQueue (freeQueue 0) 16 16 (isFreeSlot (a .share)) (a .queues .now) (v .i) (v .inv) (c .before .before .loop-test .taken)
     (sym (c .before .is-free-slot .ensures) ∙ c .if1 .taken)
-
-add-i : tie.Need-add-i Inv-loop μ-loop
-add-i c = search needs
-
-loop-less : tie.Need-loop-less Inv-loop μ-loop
-loop-less c = search needs
 
 loop-again : tie.Need-loop-again Inv-loop μ-loop
 loop-again c =
@@ -55,9 +46,9 @@ free-slot-spec =
     Inv-loop
     μ-loop
     loop-holds
-    is-free-slot-requires
+    (search needs)
     returns
-    add-i
-    loop-less
+    (search needs)
+    (search needs)
     loop-again
     returns-2)

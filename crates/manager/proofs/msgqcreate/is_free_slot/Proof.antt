@@ -6,12 +6,6 @@ use borrow.Author.Needs.{needs}
 use Rattle.manager.proofs.msgqcreate.is_free_slot.Statement.{statement}
 use Rattle.manager.proofs.msgqcreate.is_free_slot.Tie as tie
 
-read-queue-requires : tie.Need-read-queue-requires
-read-queue-requires c κs = search needs
-
-share-of-slot-requires : tie.Need-share-of-slot-requires
-share-of-slot-requires c κs = search needs
-
 returns : tie.Need-returns
 returns c =
     let a = c .before .before .before .before .before .args in
@@ -19,4 +13,4 @@ returns c =
     free-test (a .share) (a .slot) (q .result) _ (c .before .share-of-slot .ensures) ∙ ap (isFreeSlot (a .share) (a .slot)) (q .ensures)
 
 pub is-free-slot-spec : {M : Type 1} → statement M
-is-free-slot-spec = tie.close (tie.spec read-queue-requires share-of-slot-requires returns)
+is-free-slot-spec = tie.close (tie.spec (search needs) (search needs) returns)

@@ -7,12 +7,6 @@ use borrow.Author.Needs.{needs}
 use Rattle.manager.proofs.msgqcreate.message_queue_create.Statement.{statement}
 use Rattle.manager.proofs.msgqcreate.message_queue_create.Tie as tie
 
-call-refusal-requires : tie.Need-call-refusal-requires
-call-refusal-requires c κs = search needs
-
-same-length : tie.Need-same-length
-same-length c = search needs
-
 returns : tie.Need-returns
 returns c =
     let a = c .before .before .before .before .before .before .args in
@@ -23,9 +17,6 @@ create-requires c κs =
     let a = c .before .before .before .before .before .before .before .args in
     callable (tables (a .queues .now) (a .pool .now) (a .tasks .now)) (a .caller) (sym (c .before .if1 .left) ∙ c .before .before .call-refusal .ensures)
 
-same-length-2 : tie.Need-same-length-2
-same-length-2 c = search needs
-
 returns-2 : tie.Need-returns-2
 returns-2 c =
     let a = c .before .before .before .before .before .before .before .before .before .before .args in
@@ -34,4 +25,4 @@ returns-2 c =
 pub message-queue-create-spec : {M : Type 1} → statement M
 message-queue-create-spec =
     tie.close
-    (tie.spec call-refusal-requires same-length returns create-requires same-length-2 returns-2)
+    (tie.spec (search needs) (search needs) returns create-requires (search needs) returns-2)

@@ -1,97 +1,59 @@
 -- `manager::msgqdelete::delete` meets its contract. Assumes nothing.
 use native.Mathlib.Omega.{arith}
-use mathlib.Core.Path.{sym, _∙_}
-use borrow.Author.Tests.{not-true, not-false}
+use mathlib.Core.Path.{refl, sym, _∙_}
+use Rattle.records.specs.Records.{freeQueue}
 use Rattle.specification.specs.Call.{delete}
+use Rattle.specification.specs.Delete
+use Rattle.specification.specs.Step.{operationRefusals}
+use Rattle.coremsg.proofs.Changed.{queue-written}
 use Rattle.manager.specs.Outcomes.{tables}
 use Rattle.manager.proofs.Outcomes.{caller-ready, table-lengths, as-encoded}
-use Rattle.manager.proofs.OnQueue.{unusable}
-use Rattle.manager.proofs.Operations.{delete-foreign, delete-done}
+use Rattle.manager.proofs.OnQueue.{refused-operation}
+use Rattle.manager.proofs.Operations.{of-owner, delete-done}
 use borrow.Author.Needs.{needs}
 use Rattle.manager.proofs.msgqdelete.delete.Statement.{statement}
 use Rattle.manager.proofs.msgqdelete.delete.Tie as tie
 
-cast-slot : tie.Need-cast-slot
-cast-slot c = search needs
-
 read-queue-requires : tie.Need-read-queue-requires
 read-queue-requires c κs = (omega arith, table-lengths _ _ _ _ (c .before .before .before .before .pre) .0)
 
-usable-requires : tie.Need-usable-requires
-usable-requires c κs = caller-ready _ _ _ _ (c .before .before .before .before .before .pre) .below
-
-same-length : tie.Need-same-length
-same-length c = search needs
+owner-refusal-requires : tie.Need-owner-refusal-requires
+owner-refusal-requires c κs = caller-ready _ _ _ _ (c .before .before .before .before .before .pre) .below
 
 returns : tie.Need-returns
+unfolding operationRefusals Delete.refusals
 returns c =
     let a = c .before .before .before .before .before .before .before .args in
+    let t = tables (a .queues .now) (a .pool .now) (a .tasks .now) in
     let q = c .before .before .read-queue in
-    unusable (tables (a .queues .now) (a .pool .now) (a .tasks .now)) (a .caller) (a .id) delete (q .result) (q .ensures) (sym (c .before .usable .ensures) ∙ not-true (c .before .usable .result) (c .if1 .taken))
+    refused-operation t (a .caller) (a .id) delete (q .result) (q .ensures) (of-owner t (a .caller) (a .id) (q .result) (q .ensures)) refl _ (c .before .owner-refusal .ensures) (c .if1 .taken)
 
-is-foreign-requires : tie.Need-is-foreign-requires
-is-foreign-requires c κs = (caller-ready _ _ _ _ (c .before .before .before .before .before .before .before .pre) .below, omega arith)
+waiters-mask-requires : tie.Need-waiters-mask-requires
+waiters-mask-requires c κs = (omega arith, table-lengths _ _ _ _ (c .before .before .before .before .before .before .before .before .pre) .2)
 
-same-length-2 : tie.Need-same-length-2
-same-length-2 c = search needs
+ready-all-requires : tie.Need-ready-all-requires
+ready-all-requires c κs = (omega arith, table-lengths _ _ _ _ (c .before .before .before .before .before .before .before .before .before .before .pre) .2)
+
+clear-messages-requires : tie.Need-clear-messages-requires
+clear-messages-requires c κs = (omega arith, table-lengths _ _ _ _ (c .before .before .before .before .before .before .before .before .before .before .before .before .before .before .pre) .1)
+
+write-queue-requires : tie.Need-write-queue-requires
+write-queue-requires c κs = (omega arith, table-lengths _ _ _ _ (c .before .before .before .before .before .before .before .before .before .before .before .before .before .before .before .before .before .before .before .pre) .0)
 
 returns-2 : tie.Need-returns-2
 returns-2 c =
-    let a = c .before .before .before .before .before .before .before .before .before .args in
-    let q = c .before .before .before .before .read-queue in
-    delete-foreign (tables (a .queues .now) (a .pool .now) (a .tasks .now)) (a .caller) (a .id) (q .result) (q .ensures) (sym (c .before .before .before .usable .ensures) ∙ not-false (c .before .before .before .usable .result) (c .before .before .if1 .left)) (sym (c .before .is-foreign .ensures) ∙ c .if2 .taken)
-
-waiters-mask-requires : tie.Need-waiters-mask-requires
-waiters-mask-requires c κs = (omega arith, table-lengths _ _ _ _ (c .before .before .before .before .before .before .before .before .before .before .pre) .2)
-
-ready-all-requires : tie.Need-ready-all-requires
-ready-all-requires c κs = (omega arith, table-lengths _ _ _ _ (c .before .before .before .before .before .before .before .before .before .before .before .before .pre) .2)
-
-clear-messages-requires : tie.Need-clear-messages-requires
-clear-messages-requires c κs = (omega arith, table-lengths _ _ _ _ (c .before .before .before .before .before .before .before .before .before .before .before .before .before .before .before .before .pre) .1)
-
-free-slot-requires : tie.Need-free-slot-requires
-free-slot-requires c κs = (omega arith, table-lengths _ _ _ _ (c .before .before .before .before .before .before .before .before .before .before .before .before .before .before .before .before .before .before .before .before .pre) .0)
-
-same-length-3 : tie.Need-same-length-3
-same-length-3 c = search needs
-
-same-length-4 : tie.Need-same-length-4
-same-length-4 c = search needs
-
-same-length-5 : tie.Need-same-length-5
-same-length-5 c = search needs
-
-returns-3 : tie.Need-returns-3
-returns-3 c =
-    let s = c .before .before .before .before .before .before .before .before .before .before .before .before .before .before .before .before .before .before .before .before .before .before .before in
+    let s = c .before .before .before .before .before .before .before .before .before .before .before .before .before .before .before .before .before .before .before .before .before .before in
     let a = s .args in
-    let q = c .before .before .before .before .before .before .before .before .before .before .before .before .before .before .before .before .before .before .read-queue in
-    let woken = c .before .before .before .before .before .before .before .before .before .before .before .before .waiters-mask in
-    let readied = c .before .before .before .before .before .before .before .before .before .before .ready-all in
-    let cleared = c .before .before .before .before .before .before .clear-messages in
-    let freed = c .before .before .free-slot in
-    delete-done (tables (a .queues .now) (a .pool .now) (a .tasks .now)) (a .caller) (a .id) (q .result) (q .ensures) (sym (c .before .before .before .before .before .before .before .before .before .before .before .before .before .before .before .before .before .usable .ensures) ∙ not-false (c .before .before .before .before .before .before .before .before .before .before .before .before .before .before .before .before .before .usable .result) (c .before .before .before .before .before .before .before .before .before .before .before .before .before .before .before .before .if1 .left))
-    (sym (c .before .before .before .before .before .before .before .before .before .before .before .before .before .before .before .is-foreign .ensures) ∙ c .before .before .before .before .before .before .before .before .before .before .before .before .before .before .if2 .left) (freed .last .0) (cleared .last .0) (cleared .ensures) (readied .last .0) (woken .result) (woken .ensures) (freed .ensures) (readied .ensures)
-    (as-encoded _ _ _ (a .caller) (s .pre) _ _ _ (freed .kept .0) (cleared .kept .0) (readied .kept .0) (λ i. c .slice-known6 .given i .fits) (λ i. c .before .before .before .before .slice-known5 .given i .fits) (λ i. c .before .before .before .before .before .before .before .before .slice-known4 .given i .fits))
+    let q = c .before .before .before .before .before .before .before .before .before .before .before .before .before .before .before .before .before .read-queue in
+    let woken = c .before .before .before .before .before .before .before .before .before .before .before .before .before .waiters-mask in
+    let readied = c .before .before .before .before .before .before .before .before .before .before .before .ready-all in
+    let cleared = c .before .before .before .before .before .before .before .clear-messages in
+    let made = c .before .before .before .free-queue in
+    let written = c .before .before .write-queue in
+    delete-done (tables (a .queues .now) (a .pool .now) (a .tasks .now)) (a .caller) (a .id) (q .result) (q .ensures) (sym (c .before .before .before .before .before .before .before .before .before .before .before .before .before .before .before .if1 .left) ∙ c .before .before .before .before .before .before .before .before .before .before .before .before .before .before .before .before .owner-refusal .ensures)
+    (written .last .0) (cleared .last .0) (cleared .ensures) (readied .last .0) (woken .result) (woken .ensures)
+    (queue-written (a .queues .now) _ _ (omega arith) (q .result) (made .result) (λ x. freeQueue (x .generation)) (q .ensures) (made .ensures) (written .ensures)) (readied .ensures)
+    (as-encoded _ _ _ (a .caller) (s .pre) _ _ _ (written .kept .0) (cleared .kept .0) (readied .kept .0) (λ i. c .slice-known6 .given i .fits) (λ i. c .before .before .before .before .before .slice-known5 .given i .fits) (λ i. c .before .before .before .before .before .before .before .before .before .slice-known4 .given i .fits))
 
 pub delete-spec : {M : Type 1} → statement M
-delete-spec =
-    tie.close
-    (tie.spec
-    cast-slot
-    read-queue-requires
-    usable-requires
-    same-length
-    returns
-    is-foreign-requires
-    same-length-2
-    returns-2
-    waiters-mask-requires
-    ready-all-requires
-    clear-messages-requires
-    free-slot-requires
-    same-length-3
-    same-length-4
-    same-length-5
-    returns-3)
+delete-spec = tie.close (tie.spec (search needs) read-queue-requires owner-refusal-requires (search needs) returns waiters-mask-requires ready-all-requires clear-messages-requires (search needs) write-queue-requires (search needs) (search needs) (search needs) returns-2)

@@ -9,9 +9,6 @@ use Rattle.manager.proofs.msgqgetnumberpending.message_queue_get_number
 }
 use Rattle.manager.proofs.msgqgetnumberpending.message_queue_get_number_pending.Tie as tie
 
-call-refusal-requires : tie.Need-call-refusal-requires
-call-refusal-requires c κs = search needs
-
 returns : tie.Need-returns
 returns c =
     let a = c .before .before .before .before .before .args in
@@ -29,4 +26,4 @@ returns-2 c =
 
 pub message-queue-get-number-pending-spec : {M : Type 1} → statement M
 message-queue-get-number-pending-spec =
-    tie.close (tie.spec call-refusal-requires returns get-number-pending-requires returns-2)
+    tie.close (tie.spec (search needs) returns get-number-pending-requires returns-2)

@@ -38,9 +38,6 @@ read-queue-requires c κs =
     let s = c .before .before .before .before .before .before .before in
     (c .if3 .left, table-lengths _ _ _ (s .args .caller) (s .pre) .0)
 
-id-of-requires : tie.Need-id-of-requires
-id-of-requires c κs = search needs
-
 returns-4 : tie.Need-returns-4
 unfolding idOf
 returns-4 c =
@@ -62,5 +59,5 @@ ident-spec =
     named-requires
     returns-3
     read-queue-requires
-    id-of-requires
+    (search needs)
     returns-4)

@@ -6,18 +6,6 @@ use borrow.Author.Needs.{needs}
 use Rattle.manager.proofs.msgqident.is_named.Statement.{statement}
 use Rattle.manager.proofs.msgqident.is_named.Tie as tie
 
-read-queue-requires : tie.Need-read-queue-requires
-read-queue-requires c κs = search needs
-
-share-of-slot-requires : tie.Need-share-of-slot-requires
-share-of-slot-requires c κs = search needs
-
-share-of-task-requires : tie.Need-share-of-task-requires
-share-of-task-requires c κs = search needs
-
-is-open-requires : tie.Need-is-open-requires
-is-open-requires c κs = search needs
-
 returns : tie.Need-returns
 returns c =
     let a = c .before .before .before .before .before .before .before .args in
@@ -29,8 +17,8 @@ pub is-named-spec : {M : Type 1} → statement M
 is-named-spec =
     tie.close
     (tie.spec
-    read-queue-requires
-    share-of-slot-requires
-    share-of-task-requires
-    is-open-requires
+    (search needs)
+    (search needs)
+    (search needs)
+    (search needs)
     returns)

@@ -7,9 +7,6 @@ use borrow.Author.Needs.{needs}
 use Rattle.manager.proofs.msgqident.message_queue_ident.Statement.{statement}
 use Rattle.manager.proofs.msgqident.message_queue_ident.Tie as tie
 
-call-refusal-requires : tie.Need-call-refusal-requires
-call-refusal-requires c κs = search needs
-
 returns : tie.Need-returns
 returns c =
     let a = c .before .before .before .before .before .args in
@@ -27,4 +24,4 @@ returns-2 c =
 
 pub message-queue-ident-spec : {M : Type 1} → statement M
 message-queue-ident-spec =
-    tie.close (tie.spec call-refusal-requires returns ident-requires returns-2)
+    tie.close (tie.spec (search needs) returns ident-requires returns-2)

@@ -6,7 +6,7 @@ use borrow.Author.Needs.{needs}
 use Rattle.records.specs.Records.{freeQueue}
 use Rattle.records.specs.Bytes.{decodeQueue}
 use Rattle.specification.specs.Ident.{isNamed}
-use Rattle.manager.proofs.Searches.{Searched, search-begins, search-finds, search-goes-on, search-ends}
+use Rattle.coremsg.proofs.Searches.{Searched, search-begins, search-finds, search-goes-on, search-ends}
 use Rattle.manager.proofs.msgqident.named.Statement.{statement}
 use Rattle.manager.proofs.msgqident.named.Tie as tie
 
@@ -21,21 +21,12 @@ loop-holds c =
     let a = c .before .args in
     search-begins decodeQueue (freeQueue 0) 16 16 (isNamed (a .caller) (a .name) (a .share)) (a .queues .now)
 
-is-named-requires : tie.Need-is-named-requires Inv-loop μ-loop
-is-named-requires c κs = search needs
-
 returns : tie.Need-returns Inv-loop μ-loop
 returns c =
     let v = c .before .before .before .loop in
     let a = c .before .before .before .before .before .args in
     search-finds decodeQueue (freeQueue 0) 16 16 (isNamed (a .caller) (a .name) (a .share)) (a .queues .now) (v .i) (v .inv) (c .before .before .loop-test .taken)
     (sym (c .before .is-named .ensures) ∙ c .if1 .taken)
-
-add-i : tie.Need-add-i Inv-loop μ-loop
-add-i c = search needs
-
-loop-less : tie.Need-loop-less Inv-loop μ-loop
-loop-less c = search needs
 
 loop-again : tie.Need-loop-again Inv-loop μ-loop
 loop-again c =
@@ -57,9 +48,9 @@ named-spec =
     Inv-loop
     μ-loop
     loop-holds
-    is-named-requires
+    (search needs)
     returns
-    add-i
-    loop-less
+    (search needs)
+    (search needs)
     loop-again
     returns-2)

@@ -1,29 +1,14 @@
 -- `records::buffer::write_message` meets its contract. Assumes nothing.
 use mathlib.Core.Path.{ap, _∙_}
 use Prim.Native.Nat.{_*_}
+use borrow.Author.Needs.{needs}
 use Rattle.ranks.specs.Table.{spliced}
 use Rattle.records.specs.Bytes.{decodeBuffer, encodeBuffer}
 use Rattle.records.specs.Changes.{messageBuffer}
 use Rattle.records.proofs.DecodeEncode.{decode-encode-buffer, length-buffer}
 use Rattle.records.proofs.Writing
-use borrow.Author.Needs.{needs}
 use Rattle.records.proofs.buffer.write_message.Statement.{statement}
 use Rattle.records.proofs.buffer.write_message.Tie as tie
-
-encode-message-requires : tie.Need-encode-message-requires
-encode-message-requires c κs = search needs
-
-mul-copy-into : tie.Need-mul-copy-into
-mul-copy-into c = search needs
-
-slice-aggregate-copy-into : tie.Need-slice-aggregate-copy-into
-slice-aggregate-copy-into c = search needs
-
-copy-into-requires : tie.Need-copy-into-requires
-copy-into-requires c κs = search needs
-
-same-length : tie.Need-same-length
-same-length c = search needs
 
 returns : tie.Need-returns
 returns c =
@@ -37,4 +22,4 @@ returns c =
 pub write-message-spec : {M : Type 1} → statement M
 write-message-spec =
     tie.close
-    (tie.spec encode-message-requires mul-copy-into slice-aggregate-copy-into copy-into-requires same-length returns)
+    (tie.spec (search needs) (search needs) (search needs) (search needs) (search needs) returns)

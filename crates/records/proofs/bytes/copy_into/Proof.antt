@@ -1,18 +1,14 @@
--- HEAD
-use borrow.Author.Needs.{needs}
-use mathlib.Core.Path.{_≡_, refl, sym, ap, _∙_}
-use mathlib.Core.List.{List}
-use Prim.Native.Nat.{ℕ, _≤_, _+_, _-_}
+-- `records::bytes::copy_into` meets its contract. Assumes nothing.
+use mathlib.Core.Path.{_≡_, refl, ap, _∙_}
+use Prim.Native.Nat.{_≤_, _-_}
 use native.Mathlib.Numerals.{add-one}
 use native.Mathlib.Omega.{arith}
-use lib.ListN.{length, set, getD, length-set}
+use borrow.Author.Needs.{needs}
+use lib.ListN.{length, length-set}
 use lib.Seq.{paste, paste-zero, paste-suc, take-length}
 use Rattle.ranks.specs.Table.{spliced}
--- ENDHEAD
 use Rattle.records.proofs.bytes.copy_into.Statement.{statement}
 use Rattle.records.proofs.bytes.copy_into.Tie as tie
-use Rattle.records.proofs.bytes.copy_into.Reads as reads
-use Rattle.records.proofs.bytes.copy_into.Lts as lts
 
 abbrev Inv-loop : tie.InvT-loop
 Inv-loop t₀ i src k₀ t k = (k ≤ length src) × ((t ≡ paste t₀ i src k) × (length t ≡ length t₀))
@@ -23,20 +19,11 @@ abbrev μ-loop : tie.MeasureT-loop
 loop-holds : tie.Need-loop-holds Inv-loop μ-loop
 loop-holds c = (search needs, (paste-zero (c .args .t .now) (c .args .i) (c .args .src .now), refl))
 
-shared-slice-read-t : tie.Need-shared-slice-read-t Inv-loop μ-loop
-shared-slice-read-t c = search needs
-
 add-t : tie.Need-add-t Inv-loop μ-loop
 add-t c = omega arith
 
 slice-write-t : tie.Need-slice-write-t Inv-loop μ-loop
 slice-write-t c = omega arith
-
-add-k : tie.Need-add-k Inv-loop μ-loop
-add-k c = search needs
-
-loop-less : tie.Need-loop-less Inv-loop μ-loop
-loop-less c = search needs
 
 loop-again : tie.Need-loop-again Inv-loop μ-loop
 loop-again c =
@@ -62,11 +49,11 @@ copy-into-spec =
     Inv-loop
     μ-loop
     loop-holds
-    shared-slice-read-t
+    (search needs)
     add-t
     slice-write-t
-    add-k
-    loop-less
+    (search needs)
+    (search needs)
     loop-again
     same-length
     returns)

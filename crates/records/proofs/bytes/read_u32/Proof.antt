@@ -1,93 +1,32 @@
-use mathlib.Core.Path.{_≡_, refl, sym, ap, _∙_, subst}
-use Prim.Native.Nat.{ℕ, _≤_, _<_, _+_, _*_, _-_, _%_, _/_}
+-- `records::bytes::read_u32` meets its contract. Assumes nothing.
 use native.Mathlib.Omega.{arith}
-use mathlib.Core.List.{List, [], _∷_, _++_}
-use lib.ListN.{length, take, drop, length-drop}
-use Rattle.ranks.specs.Table.{slice, spliced}
-use Rattle.records.specs.Bytes.{decodeQueue, encodeQueue, toLittleEndian, decodeTask, decodeBuffer}
-use Rattle.records.proofs.Writing
 use borrow.Author.Needs.{needs}
+use Rattle.records.proofs.Writing
 use Rattle.records.proofs.bytes.read_u32.Statement.{statement}
 use Rattle.records.proofs.bytes.read_u32.Tie as tie
-use Rattle.records.proofs.bytes.read_u32.Reads as reads
-use Rattle.records.proofs.bytes.read_u32.Lts as lts
-use Rattle.records.proofs.bytes.wide32.Reads as wide32-reads
 
-shared-slice-read-wide32 : tie.Need-shared-slice-read-wide32
-shared-slice-read-wide32 c = search needs
-
-wide32-requires : tie.Need-wide32-requires
-wide32-requires c κs = search needs
-
-add-wide32 : tie.Need-add-wide32
-add-wide32 c = search needs
-
-shared-slice-read-wide32-2 : tie.Need-shared-slice-read-wide32-2
-shared-slice-read-wide32-2 c = search needs
-
-wide32-requires-2 : tie.Need-wide32-requires-2
-wide32-requires-2 c κs = search needs
-
-mul-result : tie.Need-mul-result
-mul-result c = search needs
-
-add-result : tie.Need-add-result
-add-result c = search needs
-
-add-wide32-2 : tie.Need-add-wide32-2
-add-wide32-2 c = search needs
-
-shared-slice-read-wide32-3 : tie.Need-shared-slice-read-wide32-3
-shared-slice-read-wide32-3 c = search needs
-
-wide32-requires-3 : tie.Need-wide32-requires-3
-wide32-requires-3 c κs = search needs
-
-mul-result-2 : tie.Need-mul-result-2
-mul-result-2 c = search needs
-
-add-result-2 : tie.Need-add-result-2
-add-result-2 c = search needs
-
-add-wide32-3 : tie.Need-add-wide32-3
-add-wide32-3 c = search needs
-
-shared-slice-read-wide32-4 : tie.Need-shared-slice-read-wide32-4
-shared-slice-read-wide32-4 c = search needs
-
-wide32-requires-4 : tie.Need-wide32-requires-4
-wide32-requires-4 c κs = search needs
-
-mul-result-3 : tie.Need-mul-result-3
-mul-result-3 c = search needs
-
-add-result-3 : tie.Need-add-result-3
-add-result-3 c = search needs
-
+-- src/bytes.rt:33:15
+-- src/bytes.rt:33:15
+-- src/bytes.rt:34:28
+-- src/bytes.rt:34:16
+-- src/bytes.rt:34:16
+-- src/bytes.rt:35:11
+-- src/bytes.rt:35:5
+-- src/bytes.rt:29:1
 returns : tie.Need-returns
 returns c =
-    let s = c .before .before .before .before .before .before .before .before .before in
-    omega (arith, Writing.word-number (s .args .t .now) (s .args .at) (s .pre))
+    let s = c .before .before .before in
+    omega (arith, Writing.word-number (s .args .t .now) (s .args .at) (s .pre), c .before .read-u16 .ensures, c .read-u162 .ensures)
 
 pub read-u32-spec : {M : Type 1} → statement M
 read-u32-spec =
     tie.close
     (tie.spec
-    shared-slice-read-wide32
-    wide32-requires
-    add-wide32
-    shared-slice-read-wide32-2
-    wide32-requires-2
-    mul-result
-    add-result
-    add-wide32-2
-    shared-slice-read-wide32-3
-    wide32-requires-3
-    mul-result-2
-    add-result-2
-    add-wide32-3
-    shared-slice-read-wide32-4
-    wide32-requires-4
-    mul-result-3
-    add-result-3
+    (search needs)
+    (search needs)
+    (search needs)
+    (search needs)
+    (search needs)
+    (search needs)
+    (search needs)
     returns)

@@ -1,27 +1,12 @@
 -- `records::queue::write_queue` meets its contract. Assumes nothing.
 use mathlib.Core.Path.{ap, _∙_}
 use Prim.Native.Nat.{_*_}
+use borrow.Author.Needs.{needs}
 use Rattle.ranks.specs.Table.{spliced}
 use Rattle.records.specs.Bytes.{decodeQueue, encodeQueue}
 use Rattle.records.proofs.Writing
-use borrow.Author.Needs.{needs}
 use Rattle.records.proofs.queue.write_queue.Statement.{statement}
 use Rattle.records.proofs.queue.write_queue.Tie as tie
-
-encode-queue-requires : tie.Need-encode-queue-requires
-encode-queue-requires c κs = search needs
-
-mul-copy-into : tie.Need-mul-copy-into
-mul-copy-into c = search needs
-
-slice-aggregate-copy-into : tie.Need-slice-aggregate-copy-into
-slice-aggregate-copy-into c = search needs
-
-copy-into-requires : tie.Need-copy-into-requires
-copy-into-requires c κs = search needs
-
-same-length : tie.Need-same-length
-same-length c = search needs
 
 returns : tie.Need-returns
 returns c =
@@ -34,4 +19,4 @@ returns c =
 pub write-queue-spec : {M : Type 1} → statement M
 write-queue-spec =
     tie.close
-    (tie.spec encode-queue-requires mul-copy-into slice-aggregate-copy-into copy-into-requires same-length returns)
+    (tie.spec (search needs) (search needs) (search needs) (search needs) (search needs) returns)

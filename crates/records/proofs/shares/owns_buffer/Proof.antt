@@ -1,15 +1,9 @@
 -- `records::shares::owns_buffer` meets its contract. Assumes nothing.
-use borrow.Author.Needs.{needs}
 use native.Mathlib.Omega.{arith}
+use borrow.Author.Needs.{needs}
 use Rattle.records.proofs.Tabled.{buffers-end, share-buffers}
 use Rattle.records.proofs.shares.owns_buffer.Statement.{statement}
 use Rattle.records.proofs.shares.owns_buffer.Tie as tie
-
-first-buffer-requires : tie.Need-first-buffer-requires
-first-buffer-requires c κs = search needs
-
-share-limit-requires : tie.Need-share-limit-requires
-share-limit-requires c κs = search needs
 
 add-result : tie.Need-add-result
 add-result c =
@@ -23,4 +17,4 @@ returns c =
 
 pub owns-buffer-spec : {M : Type 1} → statement M
 owns-buffer-spec =
-    tie.close (tie.spec first-buffer-requires share-limit-requires add-result returns)
+    tie.close (tie.spec (search needs) (search needs) add-result returns)

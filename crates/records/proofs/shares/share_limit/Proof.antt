@@ -1,21 +1,15 @@
 -- `records::shares::share_limit` meets its contract. Assumes nothing.
+use mathlib.Core.Path.{refl}
 use borrow.Author.Needs.{needs}
-use mathlib.Core.Path.{refl, _∙_}
 use Rattle.ranks.specs.Lists
 use Rattle.records.specs.Split
 use Rattle.records.proofs.Tabled.{tabled}
 use Rattle.records.proofs.shares.share_limit.Statement.{statement}
 use Rattle.records.proofs.shares.share_limit.Tie as tie
 
-array-read-wide : tie.Need-array-read-wide
-array-read-wide c = search needs
-
-wide-requires : tie.Need-wide-requires
-wide-requires c κs = search needs
-
 returns : tie.Need-returns
 unfolding Lists.range Split.split Split.shareLimit
-returns c = c .wide .ensures .0 ∙ tabled Split.shareLimit 4 _ refl (c .before .args .share) 0 (c .before .pre)
+returns c = tabled Split.shareLimit 4 _ refl (c .args .share) 0 (c .pre)
 
 pub share-limit-spec : {M : Type 1} → statement M
-share-limit-spec = tie.close (tie.spec array-read-wide wide-requires returns)
+share-limit-spec = tie.close (tie.spec (search needs) (search needs) returns)

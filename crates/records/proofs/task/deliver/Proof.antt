@@ -1,30 +1,9 @@
 -- `records::task::deliver` meets its contract. Assumes nothing.
+use borrow.Author.Needs.{needs}
 use Rattle.records.specs.Changes.{withMessage}
 use Rattle.records.proofs.Writing
-use borrow.Author.Needs.{needs}
 use Rattle.records.proofs.task.deliver.Statement.{statement}
 use Rattle.records.proofs.task.deliver.Tie as tie
-
-mul-from : tie.Need-mul-from
-mul-from c = search needs
-
-add-deliver-to : tie.Need-add-deliver-to
-add-deliver-to c = search needs
-
-sub-deliver-to : tie.Need-sub-deliver-to
-sub-deliver-to c = search needs
-
-part-deliver-to-start : tie.Need-part-deliver-to-start
-part-deliver-to-start c = search needs
-
-part-deliver-to-end : tie.Need-part-deliver-to-end
-part-deliver-to-end c = search needs
-
-deliver-to-requires : tie.Need-deliver-to-requires
-deliver-to-requires c κs = search needs
-
-same-length : tie.Need-same-length
-same-length c = search needs
 
 returns : tie.Need-returns
 returns c =
@@ -38,11 +17,11 @@ pub deliver-spec : {M : Type 1} → statement M
 deliver-spec =
     tie.close
     (tie.spec
-    mul-from
-    add-deliver-to
-    sub-deliver-to
-    part-deliver-to-start
-    part-deliver-to-end
-    deliver-to-requires
-    same-length
+    (search needs)
+    (search needs)
+    (search needs)
+    (search needs)
+    (search needs)
+    (search needs)
+    (search needs)
     returns)

@@ -1,44 +1,13 @@
-use mathlib.Core.Path.{_≡_, refl, sym, ap, _∙_, subst}
-use Prim.Native.Nat.{ℕ, _≤_, _<_, _+_, _*_, _-_, _%_, _/_}
-use native.Mathlib.Omega.{arith}
-use mathlib.Core.List.{List, [], _∷_, _++_}
-use lib.ListN.{getD, set, replicate, length, take, drop, length-drop}
-use lib.Seq.{length-take-le}
-use Rattle.ranks.specs.Table.{slice, spliced}
-use Rattle.records.specs.Bytes.{decodeQueue, encodeQueue, toLittleEndian, decodeTask, decodeBuffer}
-use Rattle.records.specs.Changes.{withMessage}
-use Rattle.records.proofs.DecodeEncode.{decode-encode-queue}
-use Rattle.records.proofs.Writing
+-- `records::task::deliver_to` meets its contract. Assumes nothing.
+use mathlib.Core.Path.{ap, _∙_}
+use Prim.Native.Nat.{ℕ}
+use mathlib.Core.List.{List}
 use borrow.Author.Needs.{needs}
+use Rattle.ranks.specs.Table.{spliced}
+use Rattle.records.specs.Bytes.{decodeTask}
+use Rattle.records.proofs.Writing
 use Rattle.records.proofs.task.deliver_to.Statement.{statement}
 use Rattle.records.proofs.task.deliver_to.Tie as tie
-use Rattle.records.proofs.task.deliver_to.Reads as reads
-use Rattle.records.proofs.task.deliver_to.Lts as lts
-use Rattle.records.proofs.bytes.copy_into.Reads as copy-into-reads
-
-slice-read-t5 : tie.Need-slice-read-t5
-slice-read-t5 c = search needs
-
-cast-t7 : tie.Need-cast-t7
-cast-t7 c = search needs
-
-slice-read-t9 : tie.Need-slice-read-t9
-slice-read-t9 c = search needs
-
-slice-read-t11 : tie.Need-slice-read-t11
-slice-read-t11 c = search needs
-
-slice-aggregate-copy-into : tie.Need-slice-aggregate-copy-into
-slice-aggregate-copy-into c = search needs
-
-copy-into-requires : tie.Need-copy-into-requires
-copy-into-requires c κs = search needs
-
-copy-into-requires-2 : tie.Need-copy-into-requires-2
-copy-into-requires-2 c κs = search needs
-
-same-length : tie.Need-same-length
-same-length c = search needs
 
 returns : tie.Need-returns
 returns c =
@@ -51,12 +20,12 @@ pub deliver-to-spec : {M : Type 1} → statement M
 deliver-to-spec =
     tie.close
     (tie.spec
-    slice-read-t5
-    cast-t7
-    slice-read-t9
-    slice-read-t11
-    slice-aggregate-copy-into
-    copy-into-requires
-    copy-into-requires-2
-    same-length
+    (search needs)
+    (search needs)
+    (search needs)
+    (search needs)
+    (search needs)
+    (search needs)
+    (search needs)
+    (search needs)
     returns)

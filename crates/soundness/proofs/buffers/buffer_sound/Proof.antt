@@ -6,6 +6,7 @@ use mathlib.Core.Bool.{_&&_}
 use lib.Dec.{eqb}
 use lib.ListN.{drop}
 use borrow.Author.Tests.{not-true, not-false}
+use borrow.Author.Needs.{needs}
 use Rattle.ranks.specs.Lists.{allZero}
 use Rattle.ranks.specs.Table.{byte, slice}
 use Rattle.records.specs.Records.{Queue, freeQueue, isLive, sizeAllowed}
@@ -15,27 +16,14 @@ use Rattle.records.proofs.Tabled.{slot-share-below}
 use Rattle.records.proofs.Writing.{at-table}
 use Rattle.soundness.specs.Parts.{onlyQueues}
 use Rattle.soundness.proofs.Cases.{buffer-free, buffer-beyond, buffer-foreign, buffer-used}
-use borrow.Author.Needs.{needs}
 use Rattle.soundness.proofs.buffers.buffer_sound.Statement.{statement}
 use Rattle.soundness.proofs.buffers.buffer_sound.Tie as tie
-
-shared-slice-read-wide : tie.Need-shared-slice-read-wide
-shared-slice-read-wide c = search needs
-
-wide-requires : tie.Need-wide-requires
-wide-requires c κs = search needs
-
-free-buffer-requires : tie.Need-free-buffer-requires
-free-buffer-requires c κs = search needs
 
 returns : tie.Need-returns
 unfolding decodeBuffer
 returns c =
     let a = c .before .before .before .before .before .before .args in
     c .free-buffer .ensures ∙ buffer-free (onlyQueues (a .queues .now)) (a .b) (decodeBuffer (a .r .now)) (sym (c .before .before .wide .ensures .0) ∙ c .before .if1 .taken)
-
-sub-slot : tie.Need-sub-slot
-sub-slot c = search needs
 
 returns-2 : tie.Need-returns-2
 unfolding decodeBuffer
@@ -44,9 +32,6 @@ returns-2 c =
     let ne = c .before .if1 .left in
     let w = c .before .before .wide in
     buffer-beyond (onlyQueues (a .queues .now)) (a .b) (decodeBuffer (a .r .now)) (w .result - 1) (sym (w .ensures .0) ∙ omega arith) (c .if2 .taken)
-
-share-of-slot-requires : tie.Need-share-of-slot-requires
-share-of-slot-requires c κs = search needs
 
 owns-buffer-requires : tie.Need-owns-buffer-requires
 owns-buffer-requires c κs = (subst (λ (n : ℕ). n < 4) (sym (c .share-of-slot .ensures)) (slot-share-below _ (c .before .if2 .left)), search needs)
@@ -65,12 +50,6 @@ returns-3 c =
     let w = c .before .before .before .before .before .wide in
     buffer-foreign (onlyQueues (a .queues .now)) (a .b) (decodeBuffer (a .r .now)) (w .result - 1) (sym (w .ensures .0) ∙ omega arith)
     (own (c .before) ∙ not-true _ (c .if3 .taken))
-
-read-queue-requires : tie.Need-read-queue-requires
-read-queue-requires c κs = search needs
-
-message-sound-requires : tie.Need-message-sound-requires
-message-sound-requires c κs = search needs
 
 returns-4 : tie.Need-returns-4
 unfolding decodeBuffer
@@ -91,15 +70,15 @@ pub buffer-sound-spec : {M : Type 1} → statement M
 buffer-sound-spec =
     tie.close
     (tie.spec
-    shared-slice-read-wide
-    wide-requires
-    free-buffer-requires
+    (search needs)
+    (search needs)
+    (search needs)
     returns
-    sub-slot
+    (search needs)
     returns-2
-    share-of-slot-requires
+    (search needs)
     owns-buffer-requires
     returns-3
-    read-queue-requires
-    message-sound-requires
+    (search needs)
+    (search needs)
     returns-4)

@@ -3,33 +3,12 @@ use mathlib.Core.Path.{ap, _∙_}
 use mathlib.Core.Bool.{_||_, not}
 use Prim.Native.Nat.{ℕ, _+_}
 use lib.Dec.{eqb, leb}
+use borrow.Author.Needs.{needs}
 use Rattle.ranks.specs.Table.{byte}
 use Rattle.records.specs.Bytes.{decodeTask}
 use Rattle.soundness.proofs.Orders
-use borrow.Author.Needs.{needs}
 use Rattle.soundness.proofs.priorities.in_order.Statement.{statement}
 use Rattle.soundness.proofs.priorities.in_order.Tie as tie
-
-shared-slice-read-wide : tie.Need-shared-slice-read-wide
-shared-slice-read-wide c = search needs
-
-wide-requires : tie.Need-wide-requires
-wide-requires c κs = search needs
-
-add-result : tie.Need-add-result
-add-result c = search needs
-
-shared-slice-read-result : tie.Need-shared-slice-read-result
-shared-slice-read-result c = search needs
-
-shared-slice-read-result-2 : tie.Need-shared-slice-read-result-2
-shared-slice-read-result-2 c = search needs
-
-shared-slice-read-result-3 : tie.Need-shared-slice-read-result-3
-shared-slice-read-result-3 c = search needs
-
-shared-slice-read-result-4 : tie.Need-shared-slice-read-result-4
-shared-slice-read-result-4 c = search needs
 
 returns : tie.Need-returns
 unfolding decodeTask
@@ -44,11 +23,11 @@ pub in-order-spec : {M : Type 1} → statement M
 in-order-spec =
     tie.close
     (tie.spec
-    shared-slice-read-wide
-    wide-requires
-    add-result
-    shared-slice-read-result
-    shared-slice-read-result-2
-    shared-slice-read-result-3
-    shared-slice-read-result-4
+    (search needs)
+    (search needs)
+    (search needs)
+    (search needs)
+    (search needs)
+    (search needs)
+    (search needs)
     returns)

@@ -1,31 +1,27 @@
 -- `soundness::priorities::priorities_sound` meets its contract. Assumes nothing.
-use borrow.Author.Needs.{needs}
-use mathlib.Core.Path.{_≡_, refl, sym, _∙_}
+use mathlib.Core.Path.{_≡_, subst}
 use mathlib.Core.Bool.{true, false}
-use Prim.Native.Nat.{_≤_, _-_}
+use Prim.Native.Nat.{_-_}
 use native.Mathlib.Omega.{arith}
-use borrow.Author.Tests.{not-true, not-false}
-use Rattle.records.specs.Records.{freeQueue}
+use borrow.Author.Needs.{needs}
+use Rattle.ranks.proofs.Searches.{AllBelow, all-below, one-more-passes, all-pass, one-fails}
+use Rattle.records.proofs.Writing.{length-decoded, at-table}
+use Rattle.records.specs.Records.{freeQueue, Queue}
 use Rattle.records.specs.Bytes.{decodeQueue, decodeQueues}
-use Rattle.soundness.proofs.Searched.{Passed, pass-record, stop-record, end-record}
-use mathlib.Core.Path.{subst}
 use Rattle.ranks.specs.Table.{records}
 use Rattle.ranks.proofs.Lists.{every-at}
-use Rattle.records.specs.Records.{Queue}
-use Rattle.records.proofs.Writing.{at-table}
 use Rattle.soundness.specs.Parts.{onlyTasks, positions, queueRanked, queueInOrder}
-use Rattle.soundness.proofs.Searched.{length-decoded}
 use Rattle.soundness.proofs.priorities.priorities_sound.Statement.{statement}
 use Rattle.soundness.proofs.priorities.priorities_sound.Tie as tie
 
 abbrev Inv-search : tie.InvT-search
-Inv-search queues tasks good₀ slot₀ good slot = (slot ≤ 16) × ((good ≡ true) × Passed (queueInOrder (onlyTasks tasks)) (decodeQueues queues) (freeQueue 0) slot)
+Inv-search queues tasks good₀ slot₀ good slot = AllBelow (queueInOrder (onlyTasks tasks)) (decodeQueues queues) 16 good slot
 
 abbrev μ-search : tie.MeasureT-search
 μ-search queues tasks good₀ slot₀ good slot = 16 - slot
 
 search-holds : tie.Need-search-holds Inv-search μ-search
-search-holds c = (search needs, (refl, refl))
+search-holds c = all-below
 
 queue-in-order-requires : tie.Need-queue-in-order-requires Inv-search μ-search
 queue-in-order-requires c κs =
@@ -44,31 +40,18 @@ queue-in-order-requires c κs =
       ),
     )
 
-add-slot : tie.Need-add-slot Inv-search μ-search
-add-slot c = search needs
-
-search-less : tie.Need-search-less Inv-search μ-search
-search-less c = search needs
-
 search-again : tie.Need-search-again Inv-search μ-search
 search-again c =
     let v = c .before .before .before .search in
-    let s = c .before .before .before .before .before .before .args in
-    let p = sym (c .before .queue-in-order .ensures) ∙ not-false _ (c .if1 .left) in
-    (omega arith, (v .inv .1 .0, pass-record decodeQueue 16 16 (s .queues .now) (freeQueue 0) (queueInOrder (onlyTasks (s .tasks .now))) (v .slot) (v .inv .1 .1) (omega arith) _ (refl) p))
+    one-more-passes (freeQueue 0) (length-decoded _ _ _ _) (v .inv) (omega arith) (at-table decodeQueue 16 16 _ _ (omega arith) _) (c .before .queue-in-order .ensures) (c .if1 .left)
 
 returns : tie.Need-returns Inv-search μ-search
-returns c =
-    let v = c .before .search in
-    let s = c .before .before .before .before .args in
-    v .inv .1 .0 ∙ end-record decodeQueue 16 16 (s .queues .now) (freeQueue 0) (queueInOrder (onlyTasks (s .tasks .now))) (v .slot) (v .inv .1 .1) (omega arith)
+returns c = all-pass (freeQueue 0) (length-decoded _ _ _ _) (c .before .search .inv) (omega arith)
 
 returns-2 : tie.Need-returns-2 Inv-search μ-search
 returns-2 c =
     let v = c .before .before .before .search in
-    let s = c .before .before .before .before .before .before .args in
-    let p = sym (c .before .queue-in-order .ensures) ∙ not-true _ (c .if1 .taken) in
-    stop-record decodeQueue 16 16 (s .queues .now) (freeQueue 0) (queueInOrder (onlyTasks (s .tasks .now))) (v .slot) (v .inv .1 .1) (omega arith) _ (refl) p
+    one-fails (freeQueue 0) (length-decoded _ _ _ _) (v .inv) (omega arith) (at-table decodeQueue 16 16 _ _ (omega arith) _) (c .before .queue-in-order .ensures) (c .if1 .taken)
 
 pub priorities-sound-spec : {M : Type 1} → statement M
 priorities-sound-spec =
@@ -78,8 +61,8 @@ priorities-sound-spec =
     μ-search
     search-holds
     queue-in-order-requires
-    add-slot
-    search-less
+    (search needs)
+    (search needs)
     search-again
     returns
     returns-2)

@@ -1,16 +1,13 @@
 -- `soundness::priorities::queue_in_order` meets its contract. Assumes nothing.
 use mathlib.Core.Path.{_≡_, sym, ap, subst, _∙_}
 use mathlib.Core.Bool.{true, false}
+use borrow.Author.Needs.{needs}
 use Rattle.ranks.specs.Table.{records}
 use Rattle.records.specs.Records.{Queue}
 use Rattle.soundness.specs.Parts.{onlyTasks, positions, queueRanked, queueInOrder}
 use Rattle.soundness.proofs.Orders.{order-free, order-plain, order-nobody, order-tested}
-use borrow.Author.Needs.{needs}
 use Rattle.soundness.proofs.priorities.queue_in_order.Statement.{statement}
 use Rattle.soundness.proofs.priorities.queue_in_order.Tie as tie
-
-read-queue-requires : tie.Need-read-queue-requires
-read-queue-requires c κs = search needs
 
 returns : tie.Need-returns
 returns c =
@@ -32,9 +29,6 @@ returns-3 c =
     (subst (λ (q : Queue). queueRanked false (positions 1 (records 32 136 (s .tasks .now))) (s .slot) q ≡ true) (sym (r .ensures)) (c .before .before .before .before .before .before .before .before .before .pre .1 .1 .1))
     ∙ ap (queueInOrder (onlyTasks (s .tasks .now)) (s .slot)) (r .ensures)
 
-by-priority-requires : tie.Need-by-priority-requires
-by-priority-requires c κs = search needs
-
 returns-4 : tie.Need-returns-4
 returns-4 c =
     let s = c .before .before .before .before .before .before .before .before .before .before .args in
@@ -45,4 +39,4 @@ returns-4 c =
 pub queue-in-order-spec : {M : Type 1} → statement M
 queue-in-order-spec =
     tie.close
-    (tie.spec read-queue-requires returns returns-2 returns-3 by-priority-requires returns-4)
+    (tie.spec (search needs) returns returns-2 returns-3 (search needs) returns-4)

@@ -1,14 +1,11 @@
 -- `soundness::queues::free_queue` meets its contract. Assumes nothing.
-use Rattle.soundness.proofs.Cases.{free-is}
 use borrow.Author.Needs.{needs}
+use Rattle.soundness.proofs.Cases.{free-is}
 use Rattle.soundness.proofs.queues.free_queue.Statement.{statement}
 use Rattle.soundness.proofs.queues.free_queue.Tie as tie
-
-four-zeros-requires : tie.Need-four-zeros-requires
-four-zeros-requires c κs = search needs
 
 returns : tie.Need-returns
 returns c = free-is (c .before .before .before .before .before .before .before .before .before .args .q) (c .four-zeros .result) (c .four-zeros .ensures)
 
 pub free-queue-spec : {M : Type 1} → statement M
-free-queue-spec = tie.close (tie.spec four-zeros-requires returns)
+free-queue-spec = tie.close (tie.spec (search needs) returns)

@@ -1,14 +1,11 @@
 -- `soundness::queues::live_queue` meets its contract. Assumes nothing.
-use Rattle.soundness.proofs.Cases.{live-is}
 use borrow.Author.Needs.{needs}
+use Rattle.soundness.proofs.Cases.{live-is}
 use Rattle.soundness.proofs.queues.live_queue.Statement.{statement}
 use Rattle.soundness.proofs.queues.live_queue.Tie as tie
-
-four-zeros-requires : tie.Need-four-zeros-requires
-four-zeros-requires c κs = search needs
 
 returns : tie.Need-returns
 returns c = live-is (c .before .before .before .before .before .before .before .before .before .before .before .before .args .q) (c .before .before .before .four-zeros .result) (c .before .before .before .four-zeros .ensures)
 
 pub live-queue-spec : {M : Type 1} → statement M
-live-queue-spec = tie.close (tie.spec four-zeros-requires returns)
+live-queue-spec = tie.close (tie.spec (search needs) returns)

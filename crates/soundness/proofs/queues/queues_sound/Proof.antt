@@ -1,57 +1,37 @@
 -- `soundness::queues::queues_sound` meets its contract. Assumes nothing.
-use borrow.Author.Needs.{needs}
-use mathlib.Core.Path.{_≡_, refl, sym, _∙_}
-use mathlib.Core.Bool.{true}
-use Prim.Native.Nat.{_≤_, _-_}
+use mathlib.Core.Path.{sym, _∙_}
+use Prim.Native.Nat.{_-_}
 use native.Mathlib.Omega.{arith}
-use borrow.Author.Tests.{not-true, not-false}
+use borrow.Author.Needs.{needs}
+use Rattle.ranks.proofs.Searches.{AllBelow, all-below, one-more-passes, all-pass, one-fails}
+use Rattle.records.proofs.Writing.{length-decoded, at-table}
 use Rattle.records.specs.Records.{freeQueue}
 use Rattle.records.specs.Bytes.{decodeQueue, decodeQueues}
-use Rattle.soundness.proofs.Searched.{Passed, pass-record, stop-record, end-record}
 use Rattle.specification.specs.Sound.{soundQueue}
 use Rattle.soundness.proofs.queues.queues_sound.Statement.{statement}
 use Rattle.soundness.proofs.queues.queues_sound.Tie as tie
 
 abbrev Inv-search : tie.InvT-search
-Inv-search queues good₀ slot₀ good slot = (slot ≤ 16) × ((good ≡ true) × Passed (λ slot q. soundQueue q) (decodeQueues queues) (freeQueue 0) slot)
+Inv-search queues good₀ slot₀ good slot = AllBelow (λ slot q. soundQueue q) (decodeQueues queues) 16 good slot
 
 abbrev μ-search : tie.MeasureT-search
 μ-search queues good₀ slot₀ good slot = 16 - slot
 
 search-holds : tie.Need-search-holds Inv-search μ-search
-search-holds c = (search needs, (refl, refl))
-
-read-queue-requires : tie.Need-read-queue-requires Inv-search μ-search
-read-queue-requires c κs = search needs
-
-queue-sound-requires : tie.Need-queue-sound-requires Inv-search μ-search
-queue-sound-requires c κs = search needs
-
-add-slot : tie.Need-add-slot Inv-search μ-search
-add-slot c = search needs
-
-search-less : tie.Need-search-less Inv-search μ-search
-search-less c = search needs
+search-holds c = all-below
 
 search-again : tie.Need-search-again Inv-search μ-search
 search-again c =
     let v = c .before .before .before .before .search in
-    let a = c .before .before .before .before .before .before .args in
-    let p = sym (c .before .queue-sound .ensures) ∙ not-false _ (c .if1 .left) in
-    (omega arith, (v .inv .1 .0, pass-record decodeQueue 16 16 (a .queues .now) (freeQueue 0) (λ slot q. soundQueue q) (v .slot) (v .inv .1 .1) (omega arith) _ (c .before .before .read-queue .ensures) p))
+    one-more-passes (freeQueue 0) (length-decoded _ _ _ _) (v .inv) (omega arith) (at-table decodeQueue 16 16 _ _ (omega arith) _ ∙ sym (c .before .before .read-queue .ensures)) (c .before .queue-sound .ensures) (c .if1 .left)
 
 returns : tie.Need-returns Inv-search μ-search
-returns c =
-    let v = c .before .search in
-    let a = c .before .before .before .args in
-    v .inv .1 .0 ∙ end-record decodeQueue 16 16 (a .queues .now) (freeQueue 0) (λ slot q. soundQueue q) (v .slot) (v .inv .1 .1) (omega arith)
+returns c = all-pass (freeQueue 0) (length-decoded _ _ _ _) (c .before .search .inv) (omega arith)
 
 returns-2 : tie.Need-returns-2 Inv-search μ-search
 returns-2 c =
     let v = c .before .before .before .before .search in
-    let a = c .before .before .before .before .before .before .args in
-    let p = sym (c .before .queue-sound .ensures) ∙ not-true _ (c .if1 .taken) in
-    stop-record decodeQueue 16 16 (a .queues .now) (freeQueue 0) (λ slot q. soundQueue q) (v .slot) (v .inv .1 .1) (omega arith) _ (c .before .before .read-queue .ensures) p
+    one-fails (freeQueue 0) (length-decoded _ _ _ _) (v .inv) (omega arith) (at-table decodeQueue 16 16 _ _ (omega arith) _ ∙ sym (c .before .before .read-queue .ensures)) (c .before .queue-sound .ensures) (c .if1 .taken)
 
 pub queues-sound-spec : {M : Type 1} → statement M
 queues-sound-spec =
@@ -60,10 +40,10 @@ queues-sound-spec =
     Inv-search
     μ-search
     search-holds
-    read-queue-requires
-    queue-sound-requires
-    add-slot
-    search-less
+    (search needs)
+    (search needs)
+    (search needs)
+    (search needs)
     search-again
     returns
     returns-2)

@@ -1,19 +1,19 @@
 -- `soundness::queues::share_limits` meets its contract. Assumes nothing.
-use borrow.Author.Needs.{needs}
 use mathlib.Core.Path.{_≡_, sym, ap, _∙_}
 use Prim.Native.Nat.{ℕ, _≤_, _<_, _+_, _*_, _-_}
 use native.Mathlib.Nat.{zero-add}
 use native.Mathlib.Omega.{arith}
 use mathlib.Core.List.{List}
+use borrow.Author.Needs.{needs}
 use lib.ListN.{getD, drop, length}
 use Rattle.ranks.specs.Lists.{mapWithIndex, sum as total}
 use Rattle.ranks.specs.Table.{slice}
 use Rattle.ranks.proofs.Lists.{at-mapped, length-mapped}
 use Rattle.records.specs.Records.{freeQueue}
 use Rattle.records.specs.Bytes.{decodeQueue, decodeQueues}
-use Rattle.records.proofs.Writing.{at-table}
+use Rattle.records.proofs.Writing.{at-table, length-decoded}
 use Rattle.specification.specs.Sound.{limits, limitIn}
-use Rattle.soundness.proofs.Searched.{sum-more, sum-end, length-decoded}
+use Rattle.soundness.proofs.Searched.{sum-more, sum-end}
 use Rattle.soundness.proofs.queues.share_limits.Statement.{statement}
 use Rattle.soundness.proofs.queues.share_limits.Tie as tie
 
@@ -39,18 +39,6 @@ loop-holds : tie.Need-loop-holds Inv-loop μ-loop
 loop-holds c =
     let a = c .before .args in
     (search needs, (search needs, zero-add (total (parts (a .share) (a .queues .now)))))
-
-limit-in-requires : tie.Need-limit-in-requires Inv-loop μ-loop
-limit-in-requires c κs = search needs
-
-add-sum : tie.Need-add-sum Inv-loop μ-loop
-add-sum c = search needs
-
-add-slot : tie.Need-add-slot Inv-loop μ-loop
-add-slot c = search needs
-
-loop-less : tie.Need-loop-less Inv-loop μ-loop
-loop-less c = search needs
 
 loop-again : tie.Need-loop-again Inv-loop μ-loop
 loop-again c =
@@ -80,9 +68,9 @@ share-limits-spec =
     Inv-loop
     μ-loop
     loop-holds
-    limit-in-requires
-    add-sum
-    add-slot
-    loop-less
+    (search needs)
+    (search needs)
+    (search needs)
+    (search needs)
     loop-again
     returns)

@@ -1,5 +1,4 @@
 -- `soundness::ranked::every_ranked` meets its contract. Assumes nothing.
-use borrow.Author.Needs.{needs}
 use mathlib.Core.Path.{_≡_, refl, sym, ap, _∙_, subst}
 use mathlib.Core.Bool.{Bool, true}
 use mathlib.Core.Logic.{⊎-elim}
@@ -7,6 +6,7 @@ use mathlib.Core.List.{List}
 use Prim.Native.Nat.{ℕ, _≤_, _<_, _+_, _*_, _-_}
 use native.Mathlib.Nat.{zero-add}
 use native.Mathlib.Omega.{arith}
+use borrow.Author.Needs.{needs}
 use lib.ListN.{getD, length, drop}
 use borrow.Author.Tests.{not-true, not-false}
 use Rattle.ranks.specs.Lists.{count as how-many}
@@ -14,12 +14,12 @@ use Rattle.ranks.specs.Position.{Position, standsAt}
 use Rattle.ranks.specs.Table.{records}
 use Rattle.ranks.proofs.Tests.{same?}
 use Rattle.ranks.proofs.Lists.{length-mapped}
-use Rattle.ranks.proofs.Table.{inside}
+use Rattle.ranks.proofs.Table.{position-inside}
 use Rattle.records.specs.Records.{Queue, freeQueue}
 use Rattle.records.specs.Bytes.{decodeQueue, decodeQueues}
-use Rattle.records.proofs.Writing.{at-table}
+use Rattle.records.proofs.Writing.{at-table, length-decoded}
 use Rattle.soundness.specs.Parts.{positions, Among, queueRanked}
-use Rattle.soundness.proofs.Searched.{Passed, pass, stop, end, length-decoded}
+use Rattle.ranks.proofs.Searches.{AllBelow, all-below, answered, one-more-passes, all-pass, one-fails}
 use Rattle.soundness.proofs.Ranks
 use Rattle.soundness.proofs.ranked.every_ranked.Statement.{statement}
 use Rattle.soundness.proofs.ranked.every_ranked.Tie as tie
@@ -37,7 +37,7 @@ abbrev μ-ranks : tie.MeasureT-ranks
 μ-ranks queues t stride place count messages good₀ slot n from to rank₀ good rank = n - rank
 
 abbrev Inv-search : tie.InvT-search
-Inv-search queues t stride place count messages good₀ slot₀ good slot = (slot ≤ 16) × ((good ≡ true) × Passed (queueRanked messages (positions place (records count stride t))) (decodeQueues queues) (freeQueue 0) slot)
+Inv-search queues t stride place count messages good₀ slot₀ good slot = AllBelow (queueRanked messages (positions place (records count stride t))) (decodeQueues queues) 16 good slot
 
 abbrev μ-search : tie.MeasureT-search
 μ-search queues t stride place count messages good₀ slot₀ good slot = 16 - slot
@@ -53,11 +53,8 @@ read : (c : tie.After-read-queue Inv-records μ-records Inv-ranks μ-ranks Inv-s
 read c = at-table decodeQueue 16 16 (c .before .before .before .before .before .args .queues .now) (c .before .before .search .slot) (omega arith) (freeQueue 0) ∙ sym (c .read-queue .ensures)
 
 next : (c : tie.After-read-queue Inv-records μ-records Inv-ranks μ-ranks Inv-search μ-search) → rule (c .before .before .before .before .before) (c .before .before .search .slot) (c .read-queue .result) ≡ true
-    → Passed (rule (c .before .before .before .before .before)) (decodeQueues (c .before .before .before .before .before .args .queues .now)) (freeQueue 0) (c .before .before .search .slot + 1)
-next c e =
-    let v = c .before .before .search in
-    let s = c .before .before .before .before .before in
-    pass (rule s) (decodeQueues (s .args .queues .now)) (freeQueue 0) (v .slot) (v .inv .1 .1) (omega (arith, length-decoded decodeQueue 16 16 (s .args .queues .now))) (c .read-queue .result) (read c) e
+    → AllBelow (rule (c .before .before .before .before .before)) (decodeQueues (c .before .before .before .before .before .args .queues .now)) 16 (c .before .before .search .good) (c .before .before .search .slot + 1)
+next c e = one-more-passes (freeQueue 0) (length-decoded _ _ _ _) (c .before .before .search .inv) (omega arith) (read c) (sym e) refl
 
 among : (c : tie.After-part-size Inv-records μ-records Inv-ranks μ-ranks Inv-search μ-search)
     → Among (c .before .before .before .before .before .before .before .search .slot) (c .before .part-start .result) (c .before .part-start .result + c .part-size .result) (list (c .before .before .before .before .before .before .before .before .before .before))
@@ -70,8 +67,8 @@ one-of c =
     let a = s .args in
     omega (arith, c .records-test .taken, among (c .before .before .before .before .before .before) .inside, Ranks.length-positions (a .stride) (a .place) (a .count) (a .t .now) (s .pre .1 .0))
 
-within : (c : tie.In-records Inv-records μ-records Inv-ranks μ-ranks Inv-search μ-search) → c .before .records .k * c .before .before .before .before .before .before .before .before .before .before .before .before .before .before .before .before .args .stride + c .before .before .before .before .before .before .before .before .before .before .before .before .before .before .before .before .args .stride ≤ length (c .before .before .before .before .before .before .before .before .before .before .before .before .before .before .before .before .args .t .now)
-within c = inside (c .before .before .before .before .before .before .before .before .before .before .before .before .before .before .before .before .pre .1 .0) (c .before .records .k) (one-of c)
+within : (c : tie.In-records Inv-records μ-records Inv-ranks μ-ranks Inv-search μ-search) → c .before .records .k * c .before .before .before .before .before .before .before .before .before .before .before .before .before .before .before .before .args .stride + c .before .before .before .before .before .before .before .before .before .before .before .before .before .before .before .before .args .place + 1 < length (c .before .before .before .before .before .before .before .before .before .before .before .before .before .before .before .before .args .t .now)
+within c = position-inside (c .before .before .before .before .before .before .before .before .before .before .before .before .before .before .before .before .pre .1 .0) (c .before .records .k) (one-of c)
 
 -- how many stand at the rank
 counted : (c : tie.After-records Inv-records μ-records Inv-ranks μ-ranks Inv-search μ-search)
@@ -84,19 +81,7 @@ counted c =
     (λ j h. Ranks.stood-outside p (c .before .before .before .before .before .before .before .before .held .result) (list (c .before .before .before .before .before .before .before .before .before .before .before .before .before .before .before .before)) (among (c .before .before .before .before .before .before)) r j (λ _ lt. omega (arith, c .records-test .left))) (v .inv .1 .1 .1)
 
 search-holds : tie.Need-search-holds Inv-records μ-records Inv-ranks μ-ranks Inv-search μ-search
-search-holds c = (search needs, (refl, refl))
-
-read-queue-requires : tie.Need-read-queue-requires Inv-records μ-records Inv-ranks μ-ranks Inv-search μ-search
-read-queue-requires c κs = search needs
-
-held-requires : tie.Need-held-requires Inv-records μ-records Inv-ranks μ-ranks Inv-search μ-search
-held-requires c κs = search needs
-
-part-start-requires : tie.Need-part-start-requires Inv-records μ-records Inv-ranks μ-ranks Inv-search μ-search
-part-start-requires c κs = search needs
-
-part-size-requires : tie.Need-part-size-requires Inv-records μ-records Inv-ranks μ-ranks Inv-search μ-search
-part-size-requires c κs = search needs
+search-holds c = all-below
 
 add-to : tie.Need-add-to Inv-records μ-records Inv-ranks μ-ranks Inv-search μ-search
 add-to c =
@@ -108,7 +93,7 @@ ranks-below-requires : tie.Need-ranks-below-requires Inv-records μ-records Inv-
 ranks-below-requires c κs = (c .before .before .before .before .before .before .before .before .before .before .pre .1 .0, (omega arith, (omega arith, among c)))
 
 ranks-holds : tie.Need-ranks-holds Inv-records μ-records Inv-ranks μ-ranks Inv-search μ-search
-ranks-holds c = (omega arith, (c .before .before .before .before .before .before .before .before .before .search .inv .1 .0, λ r lt. absurd (omega arith)))
+ranks-holds c = (omega arith, (c .before .before .before .before .before .before .before .before .before .search .inv .answer, λ r lt. absurd (omega arith)))
 
 records-holds : tie.Need-records-holds Inv-records μ-records Inv-ranks μ-ranks Inv-search μ-search
 records-holds c =
@@ -130,19 +115,16 @@ mul-stands : tie.Need-mul-stands Inv-records μ-records Inv-ranks μ-ranks Inv-s
 mul-stands c = omega (arith, within c)
 
 add-stands : tie.Need-add-stands Inv-records μ-records Inv-ranks μ-ranks Inv-search μ-search
-add-stands c = omega (arith, within c, c .before .before .before .before .before .before .before .before .before .before .before .before .before .before .before .before .pre .1 .0 .inside)
+add-stands c = omega (arith, within c)
 
 stands-requires : tie.Need-stands-requires Inv-records μ-records Inv-ranks μ-ranks Inv-search μ-search
-stands-requires c κs = (omega (arith, within c, c .before .before .before .before .before .before .before .before .before .before .before .before .before .before .before .before .pre .1 .0 .inside), omega (arith, c .before .before .before .before .before .before .before .before .before .before .before .before .search-test .taken))
+stands-requires c κs = (omega (arith, within c), omega (arith, c .before .before .before .before .before .before .before .before .before .before .before .before .search-test .taken))
 
 add-found : tie.Need-add-found Inv-records μ-records Inv-ranks μ-ranks Inv-search μ-search
 add-found c = omega (arith, one-of (c .before), c .before .before .before .before .before .before .before .before .before .before .before .before .before .before .before .before .before .fits .count)
 
 add-k : tie.Need-add-k Inv-records μ-records Inv-ranks μ-ranks Inv-search μ-search
 add-k c = omega (arith, one-of (c .before), c .before .before .before .before .before .before .before .before .before .before .before .before .before .before .before .before .before .fits .count)
-
-records-less : tie.Need-records-less Inv-records μ-records Inv-ranks μ-ranks Inv-search μ-search
-records-less c = search needs
 
 records-again : tie.Need-records-again Inv-records μ-records Inv-ranks μ-ranks Inv-search μ-search
 records-again c =
@@ -165,12 +147,6 @@ records-again c =
       ),
     )
 
-add-rank : tie.Need-add-rank Inv-records μ-records Inv-ranks μ-ranks Inv-search μ-search
-add-rank c = search needs
-
-ranks-less : tie.Need-ranks-less Inv-records μ-records Inv-ranks μ-ranks Inv-search μ-search
-ranks-less c = search needs
-
 ranks-again : tie.Need-ranks-again Inv-records μ-records Inv-ranks μ-ranks Inv-search μ-search
 ranks-again c =
     let v = c .before .before .before .before .ranks in
@@ -184,34 +160,21 @@ ranks-again c =
       ),
     )
 
-add-slot : tie.Need-add-slot Inv-records μ-records Inv-ranks μ-ranks Inv-search μ-search
-add-slot c = search needs
-
-search-less : tie.Need-search-less Inv-records μ-records Inv-ranks μ-ranks Inv-search μ-search
-search-less c = search needs
-
 search-again : tie.Need-search-again Inv-records μ-records Inv-ranks μ-ranks Inv-search μ-search
 search-again c =
     let v = c .before .before .before .before .search in
     let s = c .before .before .before .before .before .before .before in
     let q = c .before .before .read-queue .result in
     ⊎-elim
-    (λ w. (
-      omega arith,
-      (
-        w .8 ∙ w .6 .inv .1 .0,
-        next (c .before .before) (Ranks.queue-ranked (s .args .messages) (list s) (v .slot) (w .1 .result) q (w .1 .ensures .0)
-            (Ranks.ranks-hold (v .slot) (w .1 .result) (list s) (sym (not-false _ (w .5 .left)) ∙ w .4 .ensures) (λ r lt. w .6 .inv .1 .1 r (omega (arith, w .7 .left))))),
-      ),
-    ))
-    (λ w. (omega arith, (w .1 ∙ v .inv .1 .0, next (c .before .before) (Ranks.queue-free (s .args .messages) (list s) (v .slot) q (w .0 .left)))))
+    (λ w.
+    answered (w .8 ∙ w .6 .inv .1 .0)
+    (next (c .before .before) (Ranks.queue-ranked (s .args .messages) (list s) (v .slot) (w .1 .result) q (w .1 .ensures .0)
+    (Ranks.ranks-hold (v .slot) (w .1 .result) (list s) (sym (not-false _ (w .5 .left)) ∙ w .4 .ensures) (λ r lt. w .6 .inv .1 .1 r (omega (arith, w .7 .left)))))))
+    (λ w. answered (w .1 ∙ v .inv .answer) (next (c .before .before) (Ranks.queue-free (s .args .messages) (list s) (v .slot) q (w .0 .left))))
     (c .if1 .came)
 
 returns : tie.Need-returns Inv-records μ-records Inv-ranks μ-ranks Inv-search μ-search
-returns c =
-    let v = c .before .search in
-    let s = c .before .before .before .before in
-    v .inv .1 .0 ∙ end (rule s) (decodeQueues (s .args .queues .now)) (freeQueue 0) (v .slot) (v .inv .1 .1) (omega (arith, length-decoded decodeQueue 16 16 (s .args .queues .now)))
+returns c = all-pass (freeQueue 0) (length-decoded _ _ _ _) (c .before .search .inv) (omega arith)
 
 returns-2 : tie.Need-returns-2 Inv-records μ-records Inv-ranks μ-ranks Inv-search μ-search
 returns-2 c =
@@ -219,9 +182,9 @@ returns-2 c =
     let s = c .before .before .before .before .before .before .before .before .before .before .before .before in
     let q = c .before .before .before .before .before .before .before .read-queue .result in
     let h = c .before .before .before .before .held in
-    stop (rule s) (decodeQueues (s .args .queues .now)) (freeQueue 0) (v .slot) (v .inv .1 .1) (omega (arith, c .before .before .before .before .before .before .before .before .search-test .taken, length-decoded decodeQueue 16 16 (s .args .queues .now))) q (read (c .before .before .before .before .before .before .before))
-    (Ranks.queue-broken (s .args .messages) (list s) (v .slot) (h .result) q (h .ensures .0) (c .before .before .before .before .before .if1 .taken)
-    (Ranks.ranks-over (v .slot) (h .result) (list s) (sym (not-true _ (c .if2 .taken)) ∙ c .before .ranks-below .ensures)))
+    one-fails (freeQueue 0) (length-decoded _ _ _ _) (v .inv) (c .before .before .before .before .before .before .before .before .search-test .taken) (read (c .before .before .before .before .before .before .before))
+    (sym (Ranks.queue-broken (s .args .messages) (list s) (v .slot) (h .result) q (h .ensures .0) (c .before .before .before .before .before .if1 .taken)
+    (Ranks.ranks-over (v .slot) (h .result) (list s) (sym (not-true _ (c .if2 .taken)) ∙ c .before .ranks-below .ensures)))) refl
 
 returns-3 : tie.Need-returns-3 Inv-records μ-records Inv-ranks μ-ranks Inv-search μ-search
 returns-3 c =
@@ -229,9 +192,9 @@ returns-3 c =
     let s = c .before .before .before .before .before .before .before .before .before .before .before .before .before .before .before .before .before in
     let q = c .before .before .before .before .before .before .before .before .before .before .before .before .read-queue .result in
     let h = c .before .before .before .before .before .before .before .before .before .held in
-    stop (rule s) (decodeQueues (s .args .queues .now)) (freeQueue 0) (v .slot) (v .inv .1 .1) (omega (arith, c .before .before .before .before .before .before .before .before .before .before .before .before .before .search-test .taken, length-decoded decodeQueue 16 16 (s .args .queues .now))) q (read (c .before .before .before .before .before .before .before .before .before .before .before .before))
-    (Ranks.queue-broken (s .args .messages) (list s) (v .slot) (h .result) q (h .ensures .0) (c .before .before .before .before .before .before .before .before .before .before .if1 .taken)
-    (Ranks.ranks-wrong (v .slot) (h .result) (list s) (c .before .before .before .before .ranks .rank) (c .before .before .before .ranks-test .taken) (λ z. c .if3 .taken (counted (c .before) ∙ z))))
+    one-fails (freeQueue 0) (length-decoded _ _ _ _) (v .inv) (c .before .before .before .before .before .before .before .before .before .before .before .before .before .search-test .taken) (read (c .before .before .before .before .before .before .before .before .before .before .before .before))
+    (sym (Ranks.queue-broken (s .args .messages) (list s) (v .slot) (h .result) q (h .ensures .0) (c .before .before .before .before .before .before .before .before .before .before .if1 .taken)
+    (Ranks.ranks-wrong (v .slot) (h .result) (list s) (c .before .before .before .before .ranks .rank) (c .before .before .before .ranks-test .taken) (λ z. c .if3 .taken (counted (c .before) ∙ z))))) refl
 
 pub every-ranked-spec : {M : Type 1} → statement M
 every-ranked-spec =
@@ -244,10 +207,10 @@ every-ranked-spec =
     Inv-search
     μ-search
     search-holds
-    read-queue-requires
-    held-requires
-    part-start-requires
-    part-size-requires
+    (search needs)
+    (search needs)
+    (search needs)
+    (search needs)
     add-to
     ranks-below-requires
     ranks-holds
@@ -257,13 +220,13 @@ every-ranked-spec =
     stands-requires
     add-found
     add-k
-    records-less
+    (search needs)
     records-again
-    add-rank
-    ranks-less
+    (search needs)
+    (search needs)
     ranks-again
-    add-slot
-    search-less
+    (search needs)
+    (search needs)
     search-again
     returns
     returns-2

@@ -3,8 +3,8 @@ use native.Mathlib.Omega.{arith}
 use Prim.Native.Nat.{_≤_}
 use mathlib.Core.Path.{refl}
 use mathlib.Core.Bool.{Bool, true, false}
-use Rattle.ranks.specs.Lists.{if_then_else_}
 use borrow.Author.Needs.{needs}
+use Rattle.ranks.specs.Lists.{if_then_else_}
 use Rattle.soundness.proofs.ranked.one.Statement.{statement}
 use Rattle.soundness.proofs.ranked.one.Tie as tie
 
@@ -12,11 +12,8 @@ at-most : (b : Bool) → (if b then 1 else 0) ≤ 1
 at-most true = omega arith
 at-most false = omega arith
 
-cast-result : tie.Need-cast-result
-cast-result c = search needs
-
 returns : tie.Need-returns
 returns c = (refl, at-most (c .args .b))
 
 pub one-spec : {M : Type 1} → statement M
-one-spec = tie.close (tie.spec cast-result returns)
+one-spec = tie.close (tie.spec (search needs) returns)

@@ -1,14 +1,11 @@
 -- `soundness::ranked::part_size` meets its contract. Assumes nothing.
 use mathlib.Core.Path.{sym, ap, subst, _∙_}
 use Prim.Native.Nat.{ℕ, _<_}
+use borrow.Author.Needs.{needs}
 use Rattle.records.specs.Split.{shareLimit}
 use Rattle.records.proofs.Tabled.{slot-share-below}
-use borrow.Author.Needs.{needs}
 use Rattle.soundness.proofs.ranked.part_size.Statement.{statement}
 use Rattle.soundness.proofs.ranked.part_size.Tie as tie
-
-share-of-slot-requires : tie.Need-share-of-slot-requires
-share-of-slot-requires c κs = search needs
 
 share-limit-requires : tie.Need-share-limit-requires
 share-limit-requires c κs = subst (λ (n : ℕ). n < 4) (sym (c .share-of-slot .ensures)) (slot-share-below (c .before .before .args .slot) (c .before .before .pre))
@@ -20,4 +17,4 @@ returns-2 : tie.Need-returns-2
 returns-2 c = search needs
 
 pub part-size-spec : {M : Type 1} → statement M
-part-size-spec = tie.close (tie.spec share-of-slot-requires share-limit-requires returns returns-2)
+part-size-spec = tie.close (tie.spec (search needs) share-limit-requires returns returns-2)

@@ -1,14 +1,11 @@
 -- `soundness::ranked::part_start` meets its contract. Assumes nothing.
 use mathlib.Core.Path.{sym, ap, subst, _∙_}
 use Prim.Native.Nat.{ℕ, _<_}
+use borrow.Author.Needs.{needs}
 use Rattle.records.specs.Split.{firstBuffer}
 use Rattle.records.proofs.Tabled.{slot-share-below}
-use borrow.Author.Needs.{needs}
 use Rattle.soundness.proofs.ranked.part_start.Statement.{statement}
 use Rattle.soundness.proofs.ranked.part_start.Tie as tie
-
-share-of-slot-requires : tie.Need-share-of-slot-requires
-share-of-slot-requires c κs = search needs
 
 first-buffer-requires : tie.Need-first-buffer-requires
 first-buffer-requires c κs = subst (λ (n : ℕ). n < 4) (sym (c .share-of-slot .ensures)) (slot-share-below (c .before .before .args .slot) (c .before .before .pre))
@@ -21,4 +18,4 @@ returns-2 c = search needs
 
 pub part-start-spec : {M : Type 1} → statement M
 part-start-spec =
-    tie.close (tie.spec share-of-slot-requires first-buffer-requires returns returns-2)
+    tie.close (tie.spec (search needs) first-buffer-requires returns returns-2)

@@ -1,17 +1,17 @@
 -- `soundness::ranked::ranks_below` meets its contract. Assumes nothing.
-use borrow.Author.Needs.{needs}
 use mathlib.Core.Path.{_≡_, refl, sym, ap, _∙_, subst}
 use mathlib.Core.Bool.{true}
 use mathlib.Core.Logic.{⊎-elim}
 use mathlib.Core.List.{List}
 use Prim.Native.Nat.{ℕ, _≤_, _<_, _+_, _*_, _-_}
 use native.Mathlib.Omega.{arith}
+use borrow.Author.Needs.{needs}
 use lib.ListN.{getD, length}
 use borrow.Author.Tests.{not-true, not-false}
 use Rattle.ranks.specs.Position.{Position, noQueue}
 use Rattle.ranks.specs.Table.{records}
 use Rattle.ranks.proofs.Tests.{same?}
-use Rattle.ranks.proofs.Table.{inside}
+use Rattle.ranks.proofs.Table.{position-inside}
 use Rattle.soundness.specs.Parts.{positions, below}
 use Rattle.soundness.proofs.Ranks.{all-below, every-false, at-positions, length-positions}
 use Rattle.soundness.proofs.ranked.ranks_below.Statement.{statement}
@@ -33,8 +33,8 @@ one-of c =
     let a = s .args in
     omega (arith, s .pre .1 .1 .1 .inside, length-positions (a .stride) (a .place) (a .count) (a .t .now) (s .pre .0))
 
-within : (c : tie.In-search Inv-search μ-search) → c .before .search .k * c .before .before .before .args .stride + c .before .before .before .args .stride ≤ length (c .before .before .before .args .t .now)
-within c = inside (c .before .before .before .pre .0) (c .before .search .k) (one-of c)
+within : (c : tie.In-search Inv-search μ-search) → c .before .search .k * c .before .before .before .args .stride + c .before .before .before .args .place + 1 < length (c .before .before .before .args .t .now)
+within c = position-inside (c .before .before .before .pre .0) (c .before .search .k) (one-of c)
 
 tested : (c : tie.After-is-below Inv-search μ-search) → below (c .before .before .before .before .args .slot) (c .before .before .before .before .args .n) (getD (list (c .before .before .before .before)) (c .before .before .search .k) noQueue) ≡ c .is-below .result
 tested c =
@@ -49,16 +49,10 @@ mul-is-below : tie.Need-mul-is-below Inv-search μ-search
 mul-is-below c = omega (arith, within c)
 
 add-is-below : tie.Need-add-is-below Inv-search μ-search
-add-is-below c = omega (arith, within c, c .before .before .before .pre .0 .inside)
+add-is-below c = omega (arith, within c)
 
 is-below-requires : tie.Need-is-below-requires Inv-search μ-search
-is-below-requires c κs = (omega (arith, within c, c .before .before .before .pre .0 .inside), c .before .before .before .pre .1 .0)
-
-add-k : tie.Need-add-k Inv-search μ-search
-add-k c = search needs
-
-search-less : tie.Need-search-less Inv-search μ-search
-search-less c = search needs
+is-below-requires c κs = (omega (arith, within c), c .before .before .before .pre .1 .0)
 
 search-again : tie.Need-search-again Inv-search μ-search
 search-again c =
@@ -97,8 +91,8 @@ ranks-below-spec =
     mul-is-below
     add-is-below
     is-below-requires
-    add-k
-    search-less
+    (search needs)
+    (search needs)
     search-again
     returns
     returns-2)

@@ -2,12 +2,12 @@
 use mathlib.Core.Path.{_≡_, sym, _∙_}
 use Prim.Native.Nat.{ℕ}
 use lib.ListN.{drop}
+use borrow.Author.Tests.{not-false}
+use borrow.Author.Needs.{needs}
 use Rattle.ranks.specs.Lists.{all}
 use Rattle.records.specs.Bytes.{decode}
 use Rattle.specification.specs.Sound.{sound}
-use borrow.Author.Tests.{not-false}
 use Rattle.soundness.proofs.Whole.{tests, parts, go-on, ends, last, pool-shape, tasks-shape, messages-among, waiters-among}
-use borrow.Author.Needs.{needs}
 use Rattle.soundness.proofs.search.is_sound.Statement.{statement}
 use Rattle.soundness.proofs.search.is_sound.Tie as tie
 
@@ -35,20 +35,11 @@ left5 c = go-on _ (c .before .every-ranked2 .ensures) (c .if5 .left) (left4 (c .
 left6 : (c : tie.Else6) → Rest 6 (c .before .before .before .before .before .before .before .before .before .before .before .before .before .before .before)
 left6 c = go-on _ (c .before .priorities-sound .ensures) (c .if6 .left) (left5 (c .before .before))
 
-queues-sound-requires : tie.Need-queues-sound-requires
-queues-sound-requires c κs = search needs
-
 returns : tie.Need-returns
 returns c = ends _ (c .before .queues-sound .ensures) (c .if1 .taken) (let a = c .before .before .before .before .before .args in parts (a .queues .now) (a .pool .now) (a .tasks .now))
 
-limits-sound-requires : tie.Need-limits-sound-requires
-limits-sound-requires c κs = search needs
-
 returns-2 : tie.Need-returns-2
 returns-2 c = ends _ (c .before .limits-sound .ensures) (c .if2 .taken) (left1 (c .before .before))
-
-buffers-sound-requires : tie.Need-buffers-sound-requires
-buffers-sound-requires c κs = search needs
 
 returns-3 : tie.Need-returns-3
 returns-3 c = ends _ (c .before .buffers-sound .ensures) (c .if3 .taken) (left2 (c .before .before))
@@ -77,9 +68,6 @@ priorities-sound-requires c κs = (c .before .before .before .before .before .be
 returns-6 : tie.Need-returns-6
 returns-6 c = ends _ (c .before .priorities-sound .ensures) (c .if6 .taken) (left5 (c .before .before))
 
-tasks-sound-requires : tie.Need-tasks-sound-requires
-tasks-sound-requires c κs = search needs
-
 returns-7 : tie.Need-returns-7
 returns-7 c = last (c .tasks-sound .ensures) (left6 (c .before))
 
@@ -87,11 +75,11 @@ pub is-sound-spec : {M : Type 1} → statement M
 is-sound-spec =
     tie.close
     (tie.spec
-    queues-sound-requires
+    (search needs)
     returns
-    limits-sound-requires
+    (search needs)
     returns-2
-    buffers-sound-requires
+    (search needs)
     returns-3
     every-ranked-requires
     returns-4
@@ -99,5 +87,5 @@ is-sound-spec =
     returns-5
     priorities-sound-requires
     returns-6
-    tasks-sound-requires
+    (search needs)
     returns-7)

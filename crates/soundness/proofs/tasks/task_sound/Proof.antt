@@ -5,29 +5,20 @@ use mathlib.Core.Path.{sym, ap₂, _∙_}
 use mathlib.Core.Bool.{Bool, _&&_, _||_}
 use lib.Dec.{eqb}
 use borrow.Author.Tests.{not-true, not-false}
+use borrow.Author.Needs.{needs}
 use Rattle.ranks.specs.Table.{byte}
 use Rattle.records.specs.Records.{Queue, freeQueue, isLive, isOpen}
 use Rattle.records.specs.Bytes.{decodeQueue, decodeTask}
 use Rattle.records.proofs.Writing.{at-table}
 use Rattle.soundness.specs.Parts.{onlyQueues}
 use Rattle.soundness.proofs.Cases.{task-broken, task-ready, task-nowhere, task-beyond, task-waiting}
-use borrow.Author.Needs.{needs}
 use Rattle.soundness.proofs.tasks.task_sound.Statement.{statement}
 use Rattle.soundness.proofs.tasks.task_sound.Tie as tie
-
-any-task-requires : tie.Need-any-task-requires
-any-task-requires c κs = search needs
 
 returns : tie.Need-returns
 returns c =
     let a = c .before .before .before .before .args in
     task-broken (onlyQueues (a .queues .now)) (a .t) (decodeTask (a .r .now)) (sym (c .before .any-task .ensures) ∙ not-true _ (c .if1 .taken))
-
-shared-slice-read-if2 : tie.Need-shared-slice-read-if2
-shared-slice-read-if2 c = search needs
-
-ready-task-requires : tie.Need-ready-task-requires
-ready-task-requires c κs = search needs
 
 returns-2 : tie.Need-returns-2
 unfolding decodeTask
@@ -36,21 +27,12 @@ returns-2 c =
     c .ready-task .ensures
     ∙ task-ready (onlyQueues (a .queues .now)) (a .t) (decodeTask (a .r .now)) (sym (c .before .before .before .before .any-task .ensures) ∙ not-false _ (c .before .before .before .if1 .left)) (c .before .if2 .taken)
 
-shared-slice-read-wide : tie.Need-shared-slice-read-wide
-shared-slice-read-wide c = search needs
-
-wide-requires : tie.Need-wide-requires
-wide-requires c κs = search needs
-
 returns-3 : tie.Need-returns-3
 unfolding decodeTask
 returns-3 c =
     let a = c .before .before .before .before .before .before .before .before .before .args in
     task-nowhere (onlyQueues (a .queues .now)) (a .t) (decodeTask (a .r .now)) (sym (c .before .before .before .before .before .before .any-task .ensures) ∙ not-false _ (c .before .before .before .before .before .if1 .left)) (c .before .before .before .if2 .left)
     (sym (c .before .wide .ensures .0) ∙ c .if3 .taken)
-
-sub-slot : tie.Need-sub-slot
-sub-slot c = search needs
 
 returns-4 : tie.Need-returns-4
 unfolding decodeTask
@@ -60,18 +42,6 @@ returns-4 c =
     let w = c .before .before .wide in
     task-beyond (onlyQueues (a .queues .now)) (a .t) (decodeTask (a .r .now)) (sym (c .before .before .before .before .before .before .before .any-task .ensures) ∙ not-false _ (c .before .before .before .before .before .before .if1 .left)) (c .before .before .before .before .if2 .left)
     (w .result - 1) (sym (w .ensures .0) ∙ omega arith) (c .if4 .taken)
-
-read-queue-requires : tie.Need-read-queue-requires
-read-queue-requires c κs = search needs
-
-share-of-slot-requires : tie.Need-share-of-slot-requires
-share-of-slot-requires c κs = search needs
-
-share-of-task-requires : tie.Need-share-of-task-requires
-share-of-task-requires c κs = search needs
-
-waiting-task-requires : tie.Need-waiting-task-requires
-waiting-task-requires c κs = search needs
 
 returns-5 : tie.Need-returns-5
 unfolding decodeTask
@@ -92,18 +62,18 @@ pub task-sound-spec : {M : Type 1} → statement M
 task-sound-spec =
     tie.close
     (tie.spec
-    any-task-requires
+    (search needs)
     returns
-    shared-slice-read-if2
-    ready-task-requires
+    (search needs)
+    (search needs)
     returns-2
-    shared-slice-read-wide
-    wide-requires
+    (search needs)
+    (search needs)
     returns-3
-    sub-slot
+    (search needs)
     returns-4
-    read-queue-requires
-    share-of-slot-requires
-    share-of-task-requires
-    waiting-task-requires
+    (search needs)
+    (search needs)
+    (search needs)
+    (search needs)
     returns-5)

@@ -1,0 +1,152 @@
+// What stands at a place of a log.
+ghost use mathlib.Core.Path.{_≡_};
+ghost use lib.ListN.{length, drop};
+ghost use Rattle.ranks.specs.Lists.{allZero};
+ghost use Rattle.calllog.specs.CallLog.{rowOf, keepsRow, callOf, readRecord, readAt, placeAfter};
+use crate::call::Call;
+use crate::call::Directive;
+use crate::call::LogResult;
+use crate::rows::row_of;
+use records::bytes::read_u32;
+use records::bytes::wide;
+
+// The bytes from a place on are zero.
+fn zeros_from(r: &[u8], from: usize) -> bool
+    ensures { λ x. ⌜ x ≡ allZero (drop from (now (r .entry))) ⌝ }
+{
+    let mut ok = true;
+    let mut i = from;
+    while i < r.len() {
+        ok = ok & (r[i] == 0);
+        i += 1;
+    }
+    ok
+}
+
+// "message, zero after its size"
+fn zero_after(r: &[u8], size: u8) -> bool
+    ensures { λ x. ⌜ x ≡ allZero (drop size (drop 16 (now (r .entry)))) ⌝ }
+{
+    zeros_from(r, 16 + wide(size))
+}
+
+// What the row of the operation does not name is zero, and the size and the message are as they should be.
+fn keeps_row(operation: usize, r: &[u8]) -> bool
+    requires { ⌜ length (now r) ≡ 136 ⌝ }
+    ensures { λ x. ⌜ x ≡ keepsRow (rowOf operation) (now (r .entry)) ⌝ }
+{
+    let row = row_of(operation);
+    let size = r[3];
+    (row.caller | (r[1] == 0))
+        & (row.option | (r[2] == 0))
+        & (row.size | (size == 0))
+        & (row.id | (read_u32(r, 4) == 0))
+        & (row.ticks | (read_u32(r, 8) == 0))
+        & (row.limit | (r[12] == 0))
+        & (row.maxSize | (r[13] == 0))
+        & ((r[14] == 0) & (r[15] == 0))
+        & (size <= 120)
+        & zero_after(r, size)
+}
+
+// The call of a record's operation.
+fn call_of(r: &[u8]) -> LogResult
+    requires { ⌜ length (now r) ≡ 136 ⌝ }
+    ensures { λ x. ⌜ x ≡ callOf (now (r .entry)) ⌝ }
+{
+    let operation = r[0];
+    let caller = r[1];
+    let option = r[2];
+    let size = r[3];
+    let id = read_u32(r, 4);
+    let ticks = read_u32(r, 8);
+    let limit = r[12];
+    let maxSize = r[13];
+    match operation {
+        1 => LogResult::WellFormed(Call::By {
+            caller,
+            directive: Directive::Create {
+                name: id,
+                limit,
+                maxSize,
+                attributes: option,
+            },
+        }),
+        2 => LogResult::WellFormed(Call::By {
+            caller,
+            directive: Directive::Ident {
+                name: id,
+                share: ticks,
+            },
+        }),
+        3 => LogResult::WellFormed(Call::By {
+            caller,
+            directive: Directive::Delete { id },
+        }),
+        4 => LogResult::WellFormed(Call::By {
+            caller,
+            directive: Directive::Send { id, size },
+        }),
+        5 => LogResult::WellFormed(Call::By {
+            caller,
+            directive: Directive::Urgent { id, size },
+        }),
+        6 => LogResult::WellFormed(Call::By {
+            caller,
+            directive: Directive::Broadcast { id, size },
+        }),
+        7 => LogResult::WellFormed(Call::By {
+            caller,
+            directive: Directive::Receive { id, option, ticks },
+        }),
+        8 => LogResult::WellFormed(Call::By {
+            caller,
+            directive: Directive::Pending { id },
+        }),
+        9 => LogResult::WellFormed(Call::By {
+            caller,
+            directive: Directive::Flush { id },
+        }),
+        10 => LogResult::WellFormed(Call::Tick),
+        _ => LogResult::Malformed,
+    }
+}
+
+// What a whole record says.
+fn decode_record(r: &[u8]) -> LogResult
+    requires { ⌜ length (now r) ≡ 136 ⌝ }
+    ensures { λ x. ⌜ x ≡ readRecord (now (r .entry)) ⌝ }
+{
+    let operation = wide(r[0]);
+    if !keeps_row(operation, r) {
+        return LogResult::Malformed;
+    }
+    call_of(r)
+}
+
+// What stands at a place of a log.
+pub fn decode(log: &[u8], at: usize) -> LogResult
+    ensures { λ x. ⌜ x ≡ readAt (now (log .entry)) at ⌝ }
+{
+    if log.len() <= at {
+        return LogResult::End;
+    }
+    if log.len() - at < 136 {
+        return LogResult::Malformed;
+    }
+    let end = at + 136;
+    decode_record(&log[at..end])
+}
+
+// The place after what stands at a place of a log.
+pub fn after(log: &[u8], at: usize) -> usize
+    ensures { λ x. ⌜ x ≡ placeAfter (now (log .entry)) at ⌝ }
+{
+    if log.len() <= at {
+        return at;
+    }
+    if log.len() - at <= 136 {
+        return log.len();
+    }
+    at + 136
+}

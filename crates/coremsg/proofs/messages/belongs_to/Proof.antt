@@ -1,0 +1,25 @@
+-- `coremsg::messages::belongs_to` meets its contract. Assumes nothing.
+use Prim.Native.Nat.{ℕ, _*_}
+use mathlib.Core.Path.{sym, ap, ap₂, _∙_}
+use mathlib.Core.Bool.{Bool}
+use native.Mathlib.Nat.{add-zero}
+use native.Mathlib.Omega.{arith}
+use native.Mathlib.Numerals.{add-one}
+use lib.Dec.{eqb}
+use Rattle.ranks.specs.Table.{byte}
+use Rattle.ranks.proofs.Table.{byte-slice}
+use Rattle.records.specs.Bytes.{decodeBuffer}
+use borrow.Author.Needs.{needs}
+use Rattle.coremsg.proofs.messages.belongs_to.Statement.{statement}
+use Rattle.coremsg.proofs.messages.belongs_to.Tie as tie
+
+returns : tie.Need-returns
+unfolding decodeBuffer
+returns c =
+    let a = c .before .args in
+    let at = a .b * 128 in
+    ap₂ {C = Bool} eqb (ap (λ (k : ℕ). byte k (a .pool .now)) (sym (add-zero at)) ∙ sym (byte-slice at 128 (a .pool .now) 0 (omega arith))) (add-one (a .slot))
+
+pub belongs-to-spec : {M : Type 1} → statement M
+belongs-to-spec =
+    tie.close (tie.spec (search needs) (search needs) (search needs) (search needs) returns)

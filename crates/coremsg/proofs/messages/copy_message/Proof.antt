@@ -1,0 +1,33 @@
+-- `coremsg::messages::copy_message` meets its contract. Assumes nothing.
+use Prim.Native.Nat.{ℕ}
+use mathlib.Core.Path.{ap, _∙_}
+use mathlib.Core.List.{List}
+use Rattle.ranks.specs.Lists.{mapWithIndex}
+use Rattle.records.specs.Bytes.{decodeTasks}
+use Rattle.records.specs.Changes.{atIndex, withMessage}
+use Rattle.coremsg.proofs.Steps.{message-lent}
+use borrow.Author.Needs.{needs}
+use Rattle.coremsg.proofs.messages.copy_message.Statement.{statement}
+use Rattle.coremsg.proofs.messages.copy_message.Tie as tie
+
+returns : tie.Need-returns
+returns c =
+    let s = c .before .before .before .before .before .before .before in
+    let a = s .args in
+    c .before .before .deliver .ensures
+    ∙ ap (λ (m : List ℕ). mapWithIndex (atIndex (a .t) (withMessage m)) (decodeTasks (a .tasks .now)))
+    (message-lent (a .pool .now) (a .b) (a .n) (s .pre .1 .0) (s .pre .1 .1 .1 .0) (s .pre .1 .1 .1 .1 .0) (s .pre .1 .1 .1 .1 .1))
+
+pub copy-message-spec : {M : Type 1} → statement M
+copy-message-spec =
+    tie.close
+    (tie.spec
+    (search needs)
+    (search needs)
+    (search needs)
+    (search needs)
+    (search needs)
+    (search needs)
+    (search needs)
+    (search needs)
+    returns)

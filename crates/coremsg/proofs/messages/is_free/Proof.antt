@@ -1,0 +1,33 @@
+-- `coremsg::messages::is_free` meets its contract. Assumes nothing.
+use Prim.Native.Nat.{ℕ, _*_}
+use mathlib.Core.Path.{_≡_, sym, ap, ap₂, _∙_}
+use mathlib.Core.Logic.{⊎-elim}
+use mathlib.Core.Bool.{Bool, _&&_}
+use native.Mathlib.Nat.{add-zero}
+use native.Mathlib.Omega.{arith}
+use lib.Dec.{eqb}
+use borrow.Author.Tests.{ne-eqb}
+use Rattle.ranks.specs.Table.{byte}
+use Rattle.ranks.proofs.Tests.{same?}
+use Rattle.ranks.proofs.Table.{byte-slice}
+use Rattle.records.specs.Split.{shareOfBuffer}
+use Rattle.records.specs.Bytes.{decodeBuffer}
+use borrow.Author.Needs.{needs}
+use Rattle.coremsg.proofs.messages.is_free.Statement.{statement}
+use Rattle.coremsg.proofs.messages.is_free.Tie as tie
+
+swapped : (m n : ℕ) → eqb m n ≡ eqb n m
+swapped m n = ⊎-elim (λ (e : m ≡ n). ap₂ eqb e (sym e)) (λ ne. ne-eqb m n ne ∙ sym (ne-eqb n m (λ e. ne (sym e)))) (same? m n)
+
+returns : tie.Need-returns
+unfolding decodeBuffer
+returns c =
+    let a = c .before .before .before .args in
+    let at = a .b * 128 in
+    ap₂ {C = Bool} _&&_
+    (ap (λ (n : ℕ). eqb n 0) (ap (λ (k : ℕ). byte k (a .pool .now)) (sym (add-zero at)) ∙ sym (byte-slice at 128 (a .pool .now) 0 (omega arith))))
+    (c .owns-buffer .ensures ∙ swapped (a .share) (shareOfBuffer (a .b)))
+
+pub is-free-spec : {M : Type 1} → statement M
+is-free-spec =
+    tie.close (tie.spec (search needs) (search needs) (search needs) returns)

@@ -1,0 +1,2 @@
+pub mod KnownSound
+pub mod Replays

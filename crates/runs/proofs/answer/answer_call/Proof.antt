@@ -1,0 +1,23 @@
+-- `runs::answer::answer_call` meets its contract. Assumes nothing.
+use mathlib.Core.Path.{_∙_}
+use Rattle.runs.specs.Replay.{callOf}
+use borrow.Author.Needs.{needs}
+use Rattle.runs.proofs.answer.answer_call.Statement.{statement}
+use Rattle.runs.proofs.answer.answer_call.Tie as tie
+
+answer-directive-requires : tie.Need-answer-directive-requires
+answer-directive-requires c κs = c .before .before .before .before .before .before .before .before .before .before .before .pre
+
+answer-tick-requires : tie.Need-answer-tick-requires
+answer-tick-requires c κs = c .before .before .before .before .before .before .before .before .before .pre
+
+returns : tie.Need-returns
+unfolding callOf
+returns c = c .before .before .before .before .before .before .answer-directive .ensures ∙ simp (c .before .before .before .before .before .before .before .wide .ensures, c .before .before .before .before .before .before .before .before .before .before .before .before .logged .given .1)
+
+returns-2 : tie.Need-returns-2
+unfolding callOf
+returns-2 c = c .before .before .before .before .answer-tick .ensures ∙ simp (c .before .before .before .before .before .before .before .before .enum-told .given .1)
+
+pub answer-call-spec : {M : Type 1} → statement M
+answer-call-spec = tie.close (tie.spec (search needs) (search needs) answer-directive-requires (search needs) answer-tick-requires (search needs) (search needs) (search needs) returns (search needs) (search needs) (search needs) returns-2)

@@ -1,0 +1,29 @@
+-- `runs::answer::answer_directive` meets its contract. Assumes nothing.
+use mathlib.Core.Path.{sym, _∙_}
+use Rattle.runs.specs.Replay.{directiveOf}
+use Rattle.manager.specs.Outcomes.{tables}
+use Rattle.manager.proofs.Calls.{refused-call, callable, accepted-call}
+use borrow.Author.Needs.{needs}
+use Rattle.runs.proofs.answer.answer_directive.Statement.{statement}
+use Rattle.runs.proofs.answer.answer_directive.Tie as tie
+
+refusal-requires : tie.Need-refusal-requires
+refusal-requires c κs = c .before .before .before .before .before .before .before .pre
+
+returns : tie.Need-returns
+returns c =
+    let a = c .before .before .before .before .before .before .before .before .before .args in
+    refused-call (tables (a .queues .now) (a .pool .now) (a .tasks .now)) (a .caller) (directiveOf (a .directive) (a .field .now)) _ (c .before .refusal .ensures) (c .if1 .taken)
+
+perform-requires : tie.Need-perform-requires
+perform-requires c κs =
+    let a = c .before .before .before .before .before .before .before .before .before .before .before .before .args in
+    callable (tables (a .queues .now) (a .pool .now) (a .tasks .now)) (a .caller) (sym (c .before .before .before .if1 .left) ∙ c .before .before .before .before .refusal .ensures)
+
+returns-2 : tie.Need-returns-2
+returns-2 c =
+    let a = c .before .before .before .before .before .before .before .before .before .before .before .before .before .before .before .before .before .before .before .args in
+    c .before .before .before .before .before .before .perform .ensures ∙ accepted-call (tables (a .queues .now) (a .pool .now) (a .tasks .now)) (a .caller) (sym (c .before .before .before .before .before .before .before .before .before .before .if1 .left) ∙ c .before .before .before .before .before .before .before .before .before .before .before .refusal .ensures) (directiveOf (a .directive) (a .field .now))
+
+pub answer-directive-spec : {M : Type 1} → statement M
+answer-directive-spec = tie.close (tie.spec refusal-requires (search needs) (search needs) (search needs) returns perform-requires (search needs) (search needs) (search needs) returns-2)

@@ -1,0 +1,45 @@
+-- `runs::perform::perform` meets its contract. Assumes nothing.
+use mathlib.Core.Path.{_∙_}
+use Rattle.runs.specs.Replay.{directiveOf}
+use borrow.Author.Needs.{needs}
+use Rattle.runs.proofs.perform.perform.Statement.{statement}
+use Rattle.runs.proofs.perform.perform.Tie as tie
+
+returns : tie.Need-returns
+unfolding directiveOf
+returns c = c .before .before .create .ensures ∙ simp (c .before .before .before .before .before .wide .ensures, c .before .before .before .before .wide2 .ensures, c .before .before .before .wide3 .ensures, c .before .before .before .before .before .before .before .before .before .before .directive .given .1)
+
+returns-2 : tie.Need-returns-2
+unfolding directiveOf
+returns-2 c = c .ident .ensures ∙ simp (c .before .before .before .before .before .directive2 .given .1)
+
+returns-3 : tie.Need-returns-3
+unfolding directiveOf
+returns-3 c = c .before .before .before .before .before .before .delete .ensures ∙ simp (c .before .before .before .before .before .before .before .before .before .before .before .directive3 .given .1)
+
+returns-4 : tie.Need-returns-4
+unfolding directiveOf
+returns-4 c = c .before .before .before .before .before .before .send .ensures ∙ simp (c .before .before .before .before .before .before .before .message-of .ensures, c .before .before .before .before .before .before .before .before .before .before .before .before .directive4 .given .1)
+
+returns-5 : tie.Need-returns-5
+unfolding directiveOf
+returns-5 c = c .before .before .before .before .before .before .urgent .ensures ∙ simp (c .before .before .before .before .before .before .before .message-of2 .ensures, c .before .before .before .before .before .before .before .before .before .before .before .before .directive5 .given .1)
+
+returns-6 : tie.Need-returns-6
+unfolding directiveOf
+returns-6 c = c .before .before .before .before .broadcast .ensures ∙ simp (c .before .before .before .before .before .message-of3 .ensures, c .before .before .before .before .before .before .before .before .before .before .directive6 .given .1)
+
+returns-7 : tie.Need-returns-7
+unfolding directiveOf
+returns-7 c = c .before .before .before .before .before .before .receive .ensures ∙ simp (c .before .before .before .before .before .before .before .wide4 .ensures, c .before .before .before .before .before .before .before .before .before .before .before .before .directive7 .given .1)
+
+returns-8 : tie.Need-returns-8
+unfolding directiveOf
+returns-8 c = c .get-number-pending .ensures ∙ simp (c .before .before .before .before .before .directive8 .given .1)
+
+returns-9 : tie.Need-returns-9
+unfolding directiveOf
+returns-9 c = c .before .before .before .before .flush .ensures ∙ simp (c .before .before .before .before .before .before .before .before .before .directive9 .given .1)
+
+pub perform-spec : {M : Type 1} → statement M
+perform-spec = tie.close (tie.spec (search needs) (search needs) (search needs) (search needs) (λ c κs. search needs) (search needs) (λ c κs. search needs) (search needs) (λ c κs. search needs) (search needs) (search needs) (λ c κs. search needs) (search needs) (search needs) (λ c κs. search needs) (search needs) (search needs) (λ c κs. search needs) (search needs) (search needs) (λ c κs. search needs) (search needs) (λ c κs. search needs) (search needs) (λ c κs. search needs) (search needs) (search needs) (search needs) returns (search needs) (search needs) (search needs) returns-2 (search needs) (search needs) (search needs) returns-3 (search needs) (search needs) (search needs) returns-4 (search needs) (search needs) (search needs) returns-5 (search needs) (search needs) (search needs) returns-6 (search needs) (search needs) (search needs) returns-7 (search needs) (search needs) (search needs) returns-8 (search needs) (search needs) (search needs) returns-9)

@@ -1,0 +1,23 @@
+-- `runs::replay::message_field` meets its contract. Assumes nothing.
+use Prim.Native.Nat.{_-_}
+use native.Mathlib.Omega.{arith}
+use mathlib.Core.Path.{sym, _∙_}
+use lib.ListN.{length, drop, length-drop, drop-of-length-le}
+use lib.Seq.{take-all}
+use borrow.Author.Needs.{needs}
+use Rattle.runs.proofs.replay.message_field.Statement.{statement}
+use Rattle.runs.proofs.replay.message_field.Tie as tie
+
+returns : tie.Need-returns
+returns c =
+    let p = c .before .before .args .part .now in
+    take-all (length p - length p) (drop (length p) p) (omega (arith, length-drop (length p) p))
+    ∙ drop-of-length-le p {i = length p} (omega arith) ∙ sym (drop-of-length-le p {i = 16} (omega arith))
+
+returns-2 : tie.Need-returns-2
+returns-2 c =
+    let p = c .before .before .args .part .now in
+    take-all (length p - 16) (drop 16 p) (omega (arith, length-drop 16 p))
+
+pub message-field-spec : {M : Type 1} → statement M
+message-field-spec = tie.close (tie.spec (search needs) (search needs) (search needs) returns (search needs) (search needs) (search needs) returns-2)

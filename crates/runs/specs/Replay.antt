@@ -1,0 +1,97 @@
+-- Document 01, "The call log": a log replayed over the tables, and what is written of it.
+use Rattle.ranks.specs.Prelude.{ℕ, _+_, _*_, _/_, Bool, true, false, List, [], _∷_, _++_, length, take, drop, leb}
+use Rattle.ranks.specs.Lists.{if_then_else_}
+use Rattle.ranks.specs.Table.{byte, records, spliced}
+use Rattle.records.specs.Bytes.{Tables}
+use Rattle.records.specs.Status.{BAD-SHAPE}
+use Rattle.specification.specs.Answer.{Answer, Outcome, refuse}
+use Rattle.specification.specs.Call.{Directive, Call, create, ident, onQueue, delete, send, urgent, broadcast, receive, getNumberPending, flush, call, tick}
+use Rattle.specification.specs.Step.{step}
+use Rattle.calllog.specs.CallLog.{recordWidth, readRecord, answerBytes}
+use Rattle.calllog.specs.declared.call.Directive.{Directive as LogDirective}
+use Rattle.calllog.specs.declared.call.Directive.the-variants.{Create, Ident, Delete, Send, Urgent, Broadcast, Receive, Pending, Flush}
+use Rattle.calllog.specs.declared.call.Call.{Call as LogCall}
+use Rattle.calllog.specs.declared.call.Call.the-variants.{By, Tick}
+use Rattle.calllog.specs.declared.call.LogResult.{LogResult}
+use Rattle.calllog.specs.declared.call.LogResult.the-variants.{WellFormed, Malformed, End}
+
+-- ---- One record
+
+-- the directive of a log's record, whose message is "in the log its first size bytes"
+unfoldable pub directiveOf : LogDirective → (message : List ℕ) → Directive
+directiveOf (Create name limit maxSize attributes) message = create name limit maxSize attributes
+directiveOf (Ident name share) message = ident name share
+directiveOf (Delete id) message = onQueue id delete
+directiveOf (Send id size) message = onQueue id (send (take size message))
+directiveOf (Urgent id size) message = onQueue id (urgent (take size message))
+directiveOf (Broadcast id size) message = onQueue id (broadcast (take size message))
+directiveOf (Receive id option ticks) message = onQueue id (receive option ticks)
+directiveOf (Pending id) message = onQueue id getNumberPending
+directiveOf (Flush id) message = onQueue id flush
+
+unfoldable pub callOf : LogCall → (message : List ℕ) → Call
+callOf (By caller directive) message = call caller (directiveOf directive message)
+callOf Tick message = tick
+
+-- A well-formed call is done; anything else "is 16", and is no call.
+unfoldable pub outcomeFor : Tables → LogResult → (message : List ℕ) → Outcome Tables
+outcomeFor t (WellFormed c) message = step t (callOf c message)
+outcomeFor t Malformed message = refuse t BAD-SHAPE
+outcomeFor t End message = refuse t BAD-SHAPE
+
+-- the answer record of a record with the first byte given
+abbrev pub answerRecord : Answer → (first : ℕ) → List ℕ
+answerRecord a first = answerBytes (a .status) first (a .value) (a .woken)
+
+-- what is written of a log, and the tables after it
+pub record Replayed : Type 0 where
+  pub answers : List ℕ
+  pub after : Tables
+
+abbrev pub replayedAs : Outcome Tables → (first : ℕ) → Replayed
+replayedAs o first = record { answers = answerRecord (o .answer) first; after = o .after }
+
+-- one record of a log, or its short last part
+unfoldable pub replayRecord : Tables → List ℕ → Replayed
+replayRecord t r = replayedAs (outcomeFor t (readRecord r) (drop 16 r)) (byte 0 r)
+
+-- ---- A whole log
+
+-- the records one after the other, each on the tables as the one before left them
+unfoldable pub replayRecords : Tables → List (List ℕ) → Replayed
+replayRecords t [] = record { answers = []; after = t }
+replayRecords t (r ∷ rs) =
+    let first = replayRecord t r in
+    let rest = replayRecords (first .after) rs in
+    record { answers = first .answers ++ rest .answers; after = rest .after }
+
+-- how many records a log of `n` bytes has, a short last part counted
+unfoldable pub countOf : ℕ → ℕ
+countOf n = (n + 135) / recordWidth
+
+-- a log cut into its records; the last is as long as what is left
+unfoldable pub recordsOf : List ℕ → List (List ℕ)
+recordsOf log = records (countOf (length log)) recordWidth log
+
+unfoldable pub replayed : Tables → (log : List ℕ) → Replayed
+replayed t log = replayRecords t (recordsOf log)
+
+-- ---- Into lent bytes
+
+-- the answer records at the front of the lent bytes
+unfoldable pub replayedFront : Tables → (log lent : List ℕ) → Replayed
+replayedFront t log lent = let r = replayed t log in record { answers = spliced lent 0 (r .answers); after = r .after }
+
+-- whether the log was replayed, the lent bytes and the tables after it
+pub record ReplayedInto : Type 0 where
+  pub done : Bool
+  pub answers : List ℕ
+  pub after : Tables
+
+abbrev pub intoLent : (done : Bool) → Replayed → ReplayedInto
+intoLent done r = record { done = done; answers = r .answers; after = r .after }
+
+-- Nothing is done where the lent bytes have no room for the answer records.
+unfoldable pub replayedInto : Tables → (log lent : List ℕ) → ReplayedInto
+replayedInto t log lent =
+    if leb (countOf (length log) * 16) (length lent) then intoLent true (replayedFront t log lent) else intoLent false (record { answers = lent; after = t })

@@ -1,0 +1,104 @@
+// A whole log replayed over the tables.
+ghost use mathlib.Core.Path.{_≡_};
+ghost use mathlib.Core.Bool.{true};
+ghost use Prim.Native.Nat.{_*_, _≤_, _<_};
+ghost use lib.ListN.{length, drop};
+ghost use Rattle.ranks.specs.Table.{byte};
+ghost use Rattle.manager.specs.Outcomes.{tables};
+ghost use Rattle.runs.specs.Known.{KnownSound};
+ghost use Rattle.runs.specs.Replay.{outcomeFor, replayedAs, countOf, replayedFront, replayedInto};
+use crate::answer::answer;
+use crate::answer::answer_record;
+use calllog::call::LogResult;
+use calllog::reader::read_at;
+use manager::call::right_lengths;
+use records::bytes::copy_into;
+use soundness::search::is_sound;
+
+// The message field of a record, which a short part may not have.
+fn message_field(part: &[u8]) -> &[u8]
+    ensures { λ r. ⌜ now r ≡ drop 16 (now (part .entry)) ⌝ }
+{
+    let n = part.len();
+    if n < 16 {
+        return &part[n..];
+    }
+    &part[16..]
+}
+
+// One record of a log, where the reader found this: its answer record.
+fn replay_record(
+    queues: &mut [u8],
+    pool: &mut [u8],
+    tasks: &mut [u8],
+    found: LogResult,
+    part: &[u8],
+    known: bool,
+) -> [u8; 16]
+    requires { ⌜ (0 < length (now part)) × (known ≡ true → KnownSound (tables (now queues) (now pool) (now tasks))) ⌝ }
+    ensures { λ r. ⌜ (record { answers = r; after = tables (now (queues .exit)) (now (pool .exit)) (now (tasks .exit)) })
+        ≡ replayedAs (outcomeFor (tables (now (queues .entry)) (now (pool .entry)) (now (tasks .entry))) found (drop 16 (now (part .entry)))) (byte 0 (now (part .entry))) ⌝ }
+{
+    let a = answer(queues, pool, tasks, found, message_field(part), known);
+    answer_record(a, part[0])
+}
+
+// How many records a log of n bytes has, a short last part counted.
+pub fn record_count(n: usize) -> usize
+    ensures { λ r. ⌜ r ≡ countOf n ⌝ }
+{
+    if n % 136 == 0 {
+        return n / 136;
+    }
+    n / 136 + 1
+}
+
+// The tables have the right lengths and are sound.
+fn known_sound(queues: &[u8], pool: &[u8], tasks: &[u8]) -> bool
+    ensures { λ r. ⌜ (r ≡ true → KnownSound (tables (now (queues .entry)) (now (pool .entry)) (now (tasks .entry)))) ⌝ }
+{
+    if !right_lengths(queues, pool, tasks) {
+        return false;
+    }
+    is_sound(queues, pool, tasks)
+}
+
+// Replays a log. The answer records go to the front of the lent bytes, which have room for them.
+// Tables that are sound stay sound: they are searched once, before the first record. Tables that are not are searched at each call.
+fn replay_all(queues: &mut [u8], pool: &mut [u8], tasks: &mut [u8], log: &[u8], answers: &mut [u8])
+    requires { ⌜ countOf (length (now log)) * 16 ≤ length (now answers) ⌝ }
+    ensures { λ _. ⌜ (record { answers = now (answers .exit); after = tables (now (queues .exit)) (now (pool .exit)) (now (tasks .exit)) })
+        ≡ replayedFront (tables (now (queues .entry)) (now (pool .entry)) (now (tasks .entry))) (now (log .entry)) (now (answers .entry)) ⌝ }
+{
+    let known = known_sound(queues, pool, tasks);
+    let n = record_count(log.len());
+    let mut i = 0;
+    while i < n {
+        let at = i * 136;
+        let step = read_at(log, at);
+        let next = step.next;
+        let found = step.result;
+        let a = replay_record(queues, pool, tasks, found, &log[at..next], known);
+        let to = i * 16;
+        copy_into(answers, to, &a);
+        i += 1;
+    }
+}
+
+// Replays a log, or does nothing where the lent bytes have no room for its answer records. Whether it was replayed.
+pub fn replay(
+    queues: &mut [u8],
+    pool: &mut [u8],
+    tasks: &mut [u8],
+    log: &[u8],
+    answers: &mut [u8],
+) -> bool
+    ensures { λ r. ⌜ (record { done = r; answers = now (answers .exit); after = tables (now (queues .exit)) (now (pool .exit)) (now (tasks .exit)) })
+        ≡ replayedInto (tables (now (queues .entry)) (now (pool .entry)) (now (tasks .entry))) (now (log .entry)) (now (answers .entry)) ⌝ }
+{
+    if answers.len() / 16 < record_count(log.len()) {
+        return false;
+    }
+    replay_all(queues, pool, tasks, log, answers);
+    true
+}

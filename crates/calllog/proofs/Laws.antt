@@ -16,22 +16,10 @@ use Rattle.ranks.specs.Table.{slice, byte}
 use Rattle.ranks.proofs.Lists.{zeros-cons, zeros-nil}
 use Rattle.ranks.proofs.Tests.{same?}
 use Rattle.records.specs.Bytes.{fromLittleEndian}
+use Rattle.records.proofs.ZeroBytes.{zero-number}
 use Rattle.calllog.specs.declared.rows.Row.{Row}
 use Rattle.calllog.specs.declared.call.LogResult.the-variants.{Malformed, End}
 use Rattle.calllog.specs.CallLog.{Field, operation, caller, option, size, id, ticks, limit, maxSize, message, _of_, rows, rowOf, names, flags, keepsRow, callWith, callOf, readRecord, readAt, placeAfter}
-
--- ---- Zero bytes
-
-module _ (r : List ℕ) (i : ℕ) (ok : Bool) {z : Bool} (inv : (ok && allZero (drop i r)) ≡ z) where
-  pub zeros-more : i < length r → (ok && eqb (byte i r) 0 && allZero (drop (i + 1) r)) ≡ z
-  zeros-more h =
-      and-assoc ok (eqb (byte i r) 0) (allZero (drop (i + 1) r))
-      ∙ ap (λ (b : Bool). ok && b)
-      (sym (zeros-cons (byte i r) (drop (i + 1) r)) ∙ ap (λ (n : ℕ). allZero (byte i r ∷ drop n r)) (add-one i) ∙ ap allZero (sym (drop-cons r i 0 h)))
-      ∙ inv
-
-  pub zeros-end : length r ≤ i → ok ≡ z
-  zeros-end h = sym (and-true ok) ∙ ap (λ (b : Bool). ok && b) (sym (ap allZero (drop-of-length-le r h) ∙ zeros-nil)) ∙ inv
 
 -- ---- Numbers in fields
 
@@ -42,23 +30,6 @@ one-byte zero [] = refl
 one-byte zero (b ∷ r) = sym (add-zero b)
 one-byte (suc k) [] = refl
 one-byte (suc k) (b ∷ r) = one-byte k r
-
--- a number is zero if its bytes are
-pub zero-number : (bs : List ℕ) → eqb (fromLittleEndian bs) 0 ≡ allZero bs
-unfolding fromLittleEndian
-zero-number [] = sym zeros-nil
-zero-number (b ∷ bs) = go (same? b 0) (same? (fromLittleEndian bs) 0) (sym (zero-number bs)) ∙ sym (zeros-cons b bs)
-  where
-    go : (b ≡ 0) ⊎ (b ≡ 0 → ⊥) → (fromLittleEndian bs ≡ 0) ⊎ (fromLittleEndian bs ≡ 0 → ⊥) → allZero bs ≡ eqb (fromLittleEndian bs) 0
-        → eqb (b + 256 * fromLittleEndian bs) 0 ≡ eqb b 0 && allZero bs
-    go (inl p) (inl q) ih =
-        eq-eqb (b + 256 * fromLittleEndian bs) 0 (omega arith)
-        ∙ sym (ap₂ (λ (x y : Bool). x && y) (eq-eqb b 0 p) (ih ∙ eq-eqb (fromLittleEndian bs) 0 q))
-    go (inl p) (inr q) ih =
-        ne-eqb (b + 256 * fromLittleEndian bs) 0 (λ e. q (omega arith))
-        ∙ sym (ap₂ (λ (x y : Bool). x && y) (eq-eqb b 0 p) (ih ∙ ne-eqb (fromLittleEndian bs) 0 q))
-    go (inr p) q ih =
-        ne-eqb (b + 256 * fromLittleEndian bs) 0 (λ e. p (omega arith)) ∙ sym (ap (λ (x : Bool). x && allZero bs) (ne-eqb b 0 p))
 
 zero-byte : (k : ℕ) (r : List ℕ) → eqb (byte k r) 0 ≡ allZero (slice k 1 r)
 zero-byte k r = ap (λ (n : ℕ). eqb n 0) (one-byte k r) ∙ zero-number (slice k 1 r)

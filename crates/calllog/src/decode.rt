@@ -9,19 +9,7 @@ use crate::call::LogResult;
 use crate::rows::row_of;
 use records::bytes::read_u32;
 use records::bytes::wide;
-
-// The bytes from a place on are zero.
-fn zeros_from(r: &[u8], from: usize) -> bool
-    ensures { λ x. ⌜ x ≡ allZero (drop from (now (r .entry))) ⌝ }
-{
-    let mut ok = true;
-    let mut i = from;
-    while i < r.len() {
-        ok = ok & (r[i] == 0);
-        i += 1;
-    }
-    ok
-}
+use records::zeros::zeros_from;
 
 // "message, zero after its size"
 fn zero_after(r: &[u8], size: u8) -> bool

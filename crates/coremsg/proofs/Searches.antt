@@ -1,16 +1,24 @@
 -- A search of a table for the first record that passes a test, from record i on. Assumes nothing.
-use Prim.Native.Nat.{ℕ, _+_, _*_, _≤_, _<_}
+use Prim.Native.Nat.{ℕ, zero, suc, _+_, _*_, _≤_, _<_}
 use native.Mathlib.Nat.{zero-add}
+use native.Mathlib.Numerals.{add-one}
 use native.Mathlib.Omega.{arith}
-use mathlib.Core.Path.{_≡_, sym, ap, _∙_}
+use mathlib.Core.Path.{_≡_, sym, ap, ap₂, subst, _∙_}
+use mathlib.Core.Logic.{⊎-elim}
 use mathlib.Core.Bool.{Bool, true, false}
 use mathlib.Core.List.{List, map}
+use lib.Dec.{eqb}
 use lib.ListN.{length, getD, drop, length-map}
 use Rattle.ranks.specs.Lists.{mapWithIndex, first}
 use Rattle.ranks.specs.Table.{slice, records}
 use Rattle.ranks.proofs.Lists.{at-mapped, length-mapped, first-true, first-more, first-here, first-none}
 use Rattle.ranks.proofs.Table.{length-records}
+use Rattle.ranks.proofs.Tests.{same?}
+use borrow.Author.Tests.{ne-eqb}
 use Rattle.records.proofs.Writing.{at-table}
+
+pub swapped : (m n : ℕ) → eqb m n ≡ eqb n m
+swapped m n = ⊎-elim (λ (e : m ≡ n). ap₂ eqb e (sym e)) (λ ne. ne-eqb m n ne ∙ sym (ne-eqb n m (λ e. ne (sym e)))) (same? m n)
 
 module _ {A : Type 0} (read : List ℕ → A) (d : A) (k n : ℕ) (test : ℕ → A → Bool) (t : List ℕ) where
   -- the test of each record
@@ -45,6 +53,12 @@ module _ {A : Type 0} (read : List ℕ → A) (d : A) (k n : ℕ) (test : ℕ �
 
       pub search-goes-on : test i (read (slice (i * n) n t)) ≡ false → Searched (i + 1)
       search-goes-on e = (omega arith, first-more tests i (so-far .1) (omega (arith, tests-size)) (tested ∙ e))
+
+  -- a search that begins at record i, where none before it passes
+  pub search-begins-at : (i : ℕ) → i ≤ k → ((j : ℕ) → j < i → test j (read (slice (j * n) n t)) ≡ false) → Searched i
+  search-begins-at zero h none = search-begins
+  search-begins-at (suc i) h none =
+      subst Searched (add-one i) (search-goes-on i (search-begins-at i (omega arith) (λ j lt. none j (omega arith))) (omega arith) (none i (omega arith)))
 
   -- the record that was found passes the test
   pub search-found : (i : ℕ) → i < k → i ≡ first tests → test i (read (slice (i * n) n t)) ≡ true

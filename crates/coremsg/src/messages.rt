@@ -17,6 +17,7 @@ use ranks::take_out;
 use records::buffer::clear_buffer;
 use records::buffer::write_message;
 use records::bytes::wide;
+use records::shares::first_buffer;
 use records::shares::owns_buffer;
 use records::task::deliver;
 
@@ -58,12 +59,12 @@ fn is_free(pool: &[u8], share: usize, b: usize) -> bool
     (pool[b * 128] == 0) & owns_buffer(share, b)
 }
 
-// The lowest such buffer, or 64.
+// The lowest such buffer, or 64. No buffer before the first of the share is one.
 pub fn free_buffer(pool: &[u8], share: usize) -> usize
     requires { ⌜ (length (now pool) ≡ 8192) × (share < 4) ⌝ }
     ensures { λ r. ⌜ r ≡ first (mapWithIndex (isFreeOf share) (decodePool (now (pool .entry)))) ⌝ }
 {
-    let mut b = 0;
+    let mut b = first_buffer(share);
     while b < 64 {
         if is_free(pool, share, b) {
             return b;

@@ -9,13 +9,14 @@ use Rattle.ranks.specs.Lists.{all}
 use Rattle.ranks.specs.Table.{slice}
 use Rattle.records.specs.Records.{Task}
 use Rattle.records.specs.Bytes.{Tables, decodeTask, decode, rightLengths}
+use Rattle.records.specs.Status.{BAD-CALLER}
 use Rattle.records.proofs.Access.{task-at}
-use Rattle.specification.specs.Answer.{Outcome, Refusal, refuseIfAny, firstStatus}
+use Rattle.specification.specs.Answer.{Outcome, Refusal, refuseIfAny, firstStatus, _⇒_}
 use Rattle.specification.specs.Call.{Directive, call, tick}
 use Rattle.specification.specs.Sound.{sound}
 use Rattle.specification.specs.Step.{badCaller, commonRefusals, ownRefusals, refusals, step, effect, encoded}
 use Rattle.specification.proofs.Refused.{None, none-holds}
-use Rattle.manager.specs.Outcomes.{answerOf, outcomeOf, Callable, callRefusals, accepted}
+use Rattle.manager.specs.Outcomes.{answerOf, outcomeOf, Callable, tableRefusals, callRefusals, accepted}
 use Rattle.manager.specs.declared.answer.Answer.the-variants.{Refused}
 use Rattle.manager.proofs.Outcomes.{refused}
 
@@ -71,18 +72,21 @@ module _ (t : Tables) (caller : ℕ) where
     unfolding step refusals commonRefusals ownRefusals
     accepted-call directive = sym (second-decides t (callRefusals t caller) _ _ none-of-them)
 
--- ---- "A tick has no caller."
+-- ---- The tests of the tables
 
-module _ (t : Tables) where
-  pub tick-bad-shape : rightLengths t ≡ false → outcomeOf (Refused 16) t ≡ step t tick
-  unfolding answerOf step refusals commonRefusals ownRefusals refuseIfAny
-  tick-bad-shape e = rw e
+module _ (t : Tables) {n : ℕ} (e : n ≡ firstStatus (tableRefusals t)) where
+  pub table-refused : (caller : ℕ) → (n ≡ 0 → ⊥) → n ≡ firstStatus (callRefusals t caller)
+  table-refused caller ne = e ∙ first-of-both (tableRefusals t) ((badCaller (decode t) caller ⇒ BAD-CALLER) ∷ []) (λ z. ne (e ∙ z))
 
-  module _ (shaped : rightLengths t ≡ true) where
-    pub tick-corrupt : sound (decode t) ≡ false → outcomeOf (Refused 10) t ≡ step t tick
-    unfolding answerOf step refusals commonRefusals ownRefusals refuseIfAny
-    tick-corrupt e = rw (shaped, e)
+  pub table-passed : n ≡ 0 → (rightLengths t ≡ true) × (sound (decode t) ≡ true)
+  unfolding all
+  table-passed z = let none = none-holds (tableRefusals t) refl (sym z ∙ e) in (not-false _ (none .0), not-false _ (none .1 .0))
 
-    pub tick-accepted : sound (decode t) ≡ true → encoded (effect (decode t) tick) ≡ step t tick
-    unfolding step refusals commonRefusals ownRefusals refuseIfAny
-    tick-accepted e = rw (shaped, e)
+  -- "A tick has no caller."
+  pub tick-refused : (n ≡ 0 → ⊥) → outcomeOf (Refused n) t ≡ step t tick
+  unfolding step refusals commonRefusals ownRefusals
+  tick-refused ne = refused t _ (tableRefusals t) n e ne
+
+pub tick-accepted : (t : Tables) → rightLengths t ≡ true → sound (decode t) ≡ true → encoded (effect (decode t) tick) ≡ step t tick
+unfolding step refusals commonRefusals ownRefusals refuseIfAny
+tick-accepted t shaped e = rw (shaped, e)

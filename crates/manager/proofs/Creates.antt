@@ -6,7 +6,7 @@ use mathlib.Core.Bool.{Bool, true, false, _&&_, not}
 use mathlib.Core.List.{List, [], _∷_}
 use lib.Dec.{eqb, leb, ltb}
 use borrow.Author.Tests.{ltb-true, leb-true, not-false, ltb-false, leb-false}
-use Rattle.ranks.specs.Lists.{all, within, first, mapWithIndex}
+use Rattle.ranks.specs.Lists.{all, every, within, first, mapWithIndex}
 use Rattle.ranks.specs.Table.{slice}
 use Rattle.ranks.proofs.Tests.{both}
 use Rattle.ranks.proofs.Lists.{holds}
@@ -17,7 +17,7 @@ use Rattle.records.specs.Bytes.{Tables, decodeQueue, decodeQueues, decode, enco
 use Rattle.records.specs.Changes.{atIndex}
 use Rattle.records.proofs.Access.{queue-at}
 use Rattle.specification.specs.Create.{isFreeSlot, freeSlot, refusals, newQueue}
-use Rattle.specification.specs.Sound.{limits}
+use Rattle.specification.specs.Sound.{soundQueue, limits, sound}
 use Rattle.specification.specs.Answer.{Refusal, firstStatus}
 use Rattle.specification.specs.Call.{create}
 use Rattle.specification.specs.Create
@@ -116,3 +116,8 @@ module _ (t : Tables) (caller name limit maxSize attributes share : ℕ) (own : 
           answer = (ap answerOf answered ∙ ap (λ (v : ℕ). answerOf (Successful v 0)) value-is) i;
           after = (sym kept ∙ ap (λ (l : List Queue). encode (record { queues = l; pool = decode t .pool; tasks = decode t .tasks })) (written ∙ ap made (λ j g. add-one g j))) i;
         }
+
+-- the queue records of sound tables are as their rules say
+pub queues-sound : (t : Tables) → sound (decode t) ≡ true → every (λ i q. soundQueue q) (decodeQueues (t .queues)) ≡ true
+unfolding sound decode
+queues-sound t e = holds _ e .0

@@ -30,6 +30,10 @@ pub record Callable (t : Tables) (caller : ℕ) : Type 0 where
   pub isSound : sound (decode t) ≡ true
   pub ready : badCaller (decode t) caller ≡ false
 
+-- the tests of the tables
+abbrev pub tableRefusals : Tables → List Refusal
+tableRefusals t = (not (rightLengths t) ⇒ BAD-SHAPE) ∷ (not (sound (decode t)) ⇒ CORRUPT) ∷ []
+
 -- "Order: 16, 10, 11, then as each directive lists."
 abbrev pub callRefusals : Tables → (caller : ℕ) → List Refusal
 callRefusals t caller =

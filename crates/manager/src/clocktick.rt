@@ -8,14 +8,15 @@ ghost use lib.ListN.{length};
 ghost use Rattle.ranks.specs.Lists.{mapWithIndex, mask};
 ghost use Rattle.ranks.specs.Table.{slice};
 ghost use Rattle.records.specs.Bytes.{decodeTask, decodeTasks, decode, rightLengths};
+ghost use Rattle.specification.specs.Answer.{firstStatus};
 ghost use Rattle.specification.specs.Call.{tick};
 ghost use Rattle.specification.specs.Sound.{sound};
 ghost use Rattle.specification.specs.Step.{effect, encoded, step};
 ghost use Rattle.specification.specs.Tick.{expires, tickTask};
-ghost use Rattle.manager.specs.Outcomes.{tables, outcomeOf};
+ghost use Rattle.manager.specs.Outcomes.{tables, outcomeOf, tableRefusals};
 ghost use Rattle.manager.specs.Ticks.{NamesSlot};
 use crate::answer::Answer;
-use crate::call::right_lengths;
+use crate::call::table_refusal;
 use coremsg::lookup::less_one;
 use coremsg::masks::with_bit;
 use coremsg::waiters::time_out;
@@ -24,7 +25,6 @@ use records::queue::write_queue;
 use records::task::TaskHead;
 use records::task::read_head;
 use records::task::write_head;
-use soundness::search::is_sound;
 
 // It waits, and this is its last tick.
 pub fn expires(h: TaskHead) -> bool
@@ -89,15 +89,23 @@ pub fn tick(queues: &mut [u8], pool: &[u8], tasks: &mut [u8]) -> Answer
     Answer::Successful(u32::count_ones(woken), woken)
 }
 
+// The tick, on tables whose own tests gave this status.
+pub fn tick_after(queues: &mut [u8], pool: &[u8], tasks: &mut [u8], status: u8) -> Answer
+    requires { ⌜ status ≡ firstStatus (tableRefusals (tables (now queues) (now pool) (now tasks))) ⌝ }
+    ensures { λ r. ⌜ outcomeOf r (tables (now (queues .exit)) (now (pool .entry)) (now (tasks .exit)))
+        ≡ step (tables (now (queues .entry)) (now (pool .entry)) (now (tasks .entry))) tick ⌝ }
+{
+    if status != 0 {
+        return Answer::Refused(status);
+    }
+    tick(queues, pool, tasks)
+}
+
+// "A tick has no caller."
 pub fn clock_tick(queues: &mut [u8], pool: &[u8], tasks: &mut [u8]) -> Answer
     ensures { λ r. ⌜ outcomeOf r (tables (now (queues .exit)) (now (pool .entry)) (now (tasks .exit)))
         ≡ step (tables (now (queues .entry)) (now (pool .entry)) (now (tasks .entry))) tick ⌝ }
 {
-    if !right_lengths(queues, pool, tasks) {
-        return Answer::Refused(16);
-    }
-    if !is_sound(queues, pool, tasks) {
-        return Answer::Refused(10);
-    }
-    tick(queues, pool, tasks)
+    let status = table_refusal(queues, pool, tasks);
+    tick_after(queues, pool, tasks, status)
 }

@@ -2,11 +2,12 @@
 ghost use mathlib.Core.Path.{_≡_};
 ghost use Prim.Native.Nat.{_+_, _*_, _<_};
 ghost use lib.ListN.{length};
-ghost use mathlib.Core.Bool.{not};
-ghost use Rattle.ranks.specs.Lists.{within, mapWithIndex, first};
+ghost use mathlib.Core.Bool.{true, not};
+ghost use Rattle.ranks.specs.Lists.{within, mapWithIndex, first, every};
 ghost use Rattle.ranks.specs.Table.{slice};
 ghost use Rattle.records.specs.Bytes.{decodeQueue, decodeQueues};
 ghost use Rattle.specification.specs.Call.{call, create};
+ghost use Rattle.specification.specs.Sound.{soundQueue};
 ghost use Rattle.specification.specs.Step.{step};
 ghost use Rattle.specification.specs.Create.{isFreeSlot, newQueue, refusals};
 ghost use Rattle.records.specs.Layout.{idOf};
@@ -83,7 +84,7 @@ fn refusal(
     size: u32,
     attributes: u32,
 ) -> u8
-    requires { ⌜ (length (now queues) ≡ 256) × ((share < 4) × (slot ≡ first (mapWithIndex (isFreeSlot share) (decodeQueues (now queues))))) ⌝ }
+    requires { ⌜ (length (now queues) ≡ 256) × ((share < 4) × ((slot ≡ first (mapWithIndex (isFreeSlot share) (decodeQueues (now queues)))) × (every (λ i q. soundQueue q) (decodeQueues (now queues)) ≡ true))) ⌝ }
     ensures { λ r. ⌜ r ≡ firstStatus (refusals (onlyQueues (now (queues .entry))) share name limit size attributes) ⌝ }
 {
     if name == 0 {

@@ -5,7 +5,7 @@ use native.Mathlib.Nat.{not-suc-le-zero, zero-mul, suc-mul, mul-le-mul-right, ze
 use mathlib.Core.Path.{_≡_, refl, sym, ap, ap₂, _∙_}
 use mathlib.Core.List.{List, [], _∷_, _++_, append-assoc}
 use lib.ListN.{length, getD, take, drop, set, length-drop}
-use lib.Seq.{take-nil, length-take-le, take-at, drop-at, take-take, drop-drop, take-append-le, drop-append-le, getD-drop, getD-take, take-set-le, take-set-lt, drop-set-lt, drop-set-add, set-set}
+use lib.Seq.{take-nil, length-take-le, take-at, drop-at, take-take, drop-drop, take-append-le, drop-append-le, getD-drop, getD-take, take-set-le, take-set-lt, drop-set-lt, drop-set-add, set-set, set-getD}
 use Rattle.ranks.specs.Position.{Position}
 use Rattle.ranks.specs.Table.{slice, byte, records, spliced, positionIn, putPosition, moved, Shape}
 use Rattle.ranks.proofs.InTurn.{ChangedUpTo, still, one-more-changed}
@@ -134,6 +134,10 @@ inside {stride} {place} {count} {size} s i h = omega (arith, s .whole, before st
 pub position-inside : {stride place count size : ℕ} → Shape stride place count size → (i : ℕ) → i < count → i * stride + place + 1 < size
 position-inside s i h = omega (arith, s .inside, inside s i h)
 
+-- a position written where it stands changes nothing
+pub put-same : (i : ℕ) (t : List ℕ) → putPosition i (positionIn i t) t ≡ t
+put-same i t = ap (λ (l : List ℕ). set l (i + 1) (byte (i + 1) t)) (set-getD t i 0) ∙ set-getD t (i + 1) 0
+
 module _ {n a k : ℕ} (F : ℕ → Position → Position) {t₀ t : List ℕ} {i : ℕ} (shape : Shape n a k (length t₀)) (hi : i < k)
     (changed : ChangedUpTo (records k n) k (moved a F) t₀ t i) where
   record-still : slice (i * n) n t ≡ getD (records k n t₀) i []
@@ -142,11 +146,11 @@ module _ {n a k : ℕ} (F : ℕ → Position → Position) {t₀ t : List ℕ} {
   pub position-still : positionIn (i * n + a) t ≡ positionIn a (getD (records k n t₀) i [])
   position-still = position-slice (i * n) n a t (shape .inside) ∙ ap (positionIn a) record-still
 
-  pub one-more-moved : {u : List ℕ} {p : Position} → length u ≡ length t → p ≡ F i (positionIn (i * n + a) t) → u ≡ putPosition (i * n + a) p t
+  pub one-more-moved : {u : List ℕ} → length u ≡ length t → u ≡ putPosition (i * n + a) (F i (positionIn (i * n + a) t)) t
       → ChangedUpTo (records k n) k (moved a F) t₀ u (i + 1)
   unfolding moved
-  one-more-moved {u} {p} l e f =
+  one-more-moved {u} l f =
       one-more-changed [] (length-records k n t₀) changed hi l
       (ap (records k n) f
-      ∙ records-put-position k n t i a p (shape .inside) hi (omega (arith, inside shape i hi, changed .size))
-      ∙ ap (set (records k n t) i) (ap₂ {C = List ℕ} (putPosition a) (e ∙ ap (F i) position-still) record-still))
+      ∙ records-put-position k n t i a (F i (positionIn (i * n + a) t)) (shape .inside) hi (omega (arith, inside shape i hi, changed .size))
+      ∙ ap (set (records k n t) i) (ap₂ {C = List ℕ} (putPosition a) (ap (F i) position-still) record-still))

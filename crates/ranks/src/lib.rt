@@ -62,7 +62,7 @@ fn after(entering: bool, i: usize, slot: u8, rank: u8, j: usize, p: Position) ->
     after_take_out(i, slot, rank, j, p)
 }
 
-fn read_position(t: &[u8], at: usize) -> Position
+pub fn read_position(t: &[u8], at: usize) -> Position
     requires { ⌜ at + 1 < length (now t) ⌝ }
     ensures { λ p. ⌜ p ≡ positionIn at (now (t .entry)) ⌝ }
 {
@@ -78,6 +78,18 @@ fn write_position(t: &mut [u8], at: usize, p: Position)
 {
     t[at] = p.queue;
     t[at + 1] = p.rank;
+}
+
+// The position of record j, at this place, as record i enters or leaves. Only record i and those of the queue are written.
+fn shift_at(t: &mut [u8], at: usize, entering: bool, i: usize, slot: u8, rank: u8, j: usize)
+    requires { ⌜ (at + 1 < length (now t)) × ((slot < 255) × (entering ≡ true → inQueue slot (positionIn at (now t)) ≡ true → positionIn at (now t) .rank < 255)) ⌝ }
+    ensures { λ _. ⌜ now (t .exit) ≡ putPosition at (shifted entering i slot rank j (positionIn at (now (t .entry)))) (now (t .entry)) ⌝ }
+{
+    let p = read_position(t, at);
+    if (j != i) & (p.queue != slot + 1) {
+        return;
+    }
+    write_position(t, at, after(entering, i, slot, rank, j, p));
 }
 
 // Record i enters the queue at this rank, or leaves it from there; the positions of the others follow.
@@ -97,8 +109,7 @@ fn shift(
     let mut j = 0;
     while j < count {
         let at = j * stride + place;
-        let p = after(entering, i, slot, rank, j, read_position(t, at));
-        write_position(t, at, p);
+        shift_at(t, at, entering, i, slot, rank, j);
         j += 1;
     }
 }

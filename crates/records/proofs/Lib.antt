@@ -6,3 +6,4 @@ pub mod InTurn
 pub mod RecordCases
 pub mod Tabled
 pub mod Writing
+pub mod ZeroBytes

@@ -1,4 +1,5 @@
--- A constant table of a function's values gives the function, and a test that is computed at each number holds. Assumes nothing.
+-- Two functions whose values are computed to be the same below a number agree there, and a test that is computed at each number holds.
+-- Assumes nothing.
 use Prim.Native.Nat.{ℕ, _+_, _≤_, _<_}
 use native.Mathlib.Nat.{zero-add}
 use native.Mathlib.Omega.{arith}
@@ -13,9 +14,11 @@ use Rattle.ranks.proofs.Lists.{every-at, length-range, at-range}
 use Rattle.records.specs.Split.{split, shareOfSlot, shareOfBuffer, shareOfTask, firstBuffer, shareLimit}
 use Rattle.records.proofs.Access.{at-map}
 
-pub tabled : (f : ℕ → ℕ) (n : ℕ) (table : List ℕ) → map f (range 0 n) ≡ table → (i d : ℕ) → i < n → getD table i d ≡ f i
-tabled f n table e i d h =
-    ap (λ (l : List ℕ). getD l i d) (sym e) ∙ at-map f (range 0 n) i 0 d (omega (arith, length-range 0 n)) ∙ ap f (at-range 0 n i 0 h ∙ zero-add i)
+pub agree : (f g : ℕ → ℕ) (n : ℕ) → map f (range 0 n) ≡ map g (range 0 n) → (i : ℕ) → i < n → f i ≡ g i
+agree f g n e i h = sym (value f) ∙ ap (λ (l : List ℕ). getD l i 0) e ∙ value g
+  where
+    value : (f : ℕ → ℕ) → getD (map f (range 0 n)) i 0 ≡ f i
+    value f = at-map f (range 0 n) i 0 0 (omega (arith, length-range 0 n)) ∙ ap f (at-range 0 n i 0 h ∙ zero-add i)
 
 computed : (f : ℕ → Bool) (n : ℕ) → every (λ _ i. f i) (range 0 n) ≡ true → (i : ℕ) → i < n → f i ≡ true
 computed f n e i h =

@@ -1,12 +1,13 @@
 -- Bytes written to the tables, and what becomes of the records. Assumes nothing.
-use Prim.Native.Nat.{ℕ, zero, suc, _+_, _-_, _*_, _/_, _%_, _≤_, _<_}
+use Prim.Native.Nat.{ℕ, zero, suc, _+_, _-_, _*_, _/_, _%_, _^_, _≤_, _<_}
+use native.Mathlib.Nat.{pow-suc, mul-comm, mul-assoc}
 use native.Mathlib.Omega.{arith}
 use mathlib.Core.Path.{_≡_, refl, sym, ap, _∙_}
 use mathlib.Core.Bool.{Bool, true, false}
 use mathlib.Core.Logic.{⊎-elim}
 use mathlib.Core.List.{List, [], _∷_, _++_, map, append-assoc}
 use lib.ListN.{length, getD, take, drop, set, replicate, length-set, length-map, length-drop, length-append}
-use lib.Seq.{getD-set-same, getD-set-other, set-getD, drop-cons, drop-drop, take-all, take-at, drop-at, length-take-le}
+use lib.Seq.{getD-set-same, getD-set-other, set-getD, drop-cons, drop-drop, take-all, take-at, take-add, drop-at, length-take-le}
 use borrow.Author.Tests.{eq-eqb, ne-eqb}
 use Rattle.ranks.specs.Lists.{if_then_else_, mapWithIndex}
 use Rattle.ranks.specs.Position.{Position, noQueue}
@@ -22,7 +23,7 @@ use Rattle.records.proofs.DecodeEncode.{BufferEncodable, from-to-little
 use Rattle.records.proofs.Access.{at-map}
 use Rattle.records.specs.declared.task.TaskHead.{TaskHead}
 
--- ---- Numbers of two and four bytes
+-- ---- Numbers of two, four and eight bytes
 
 pub two : (r : List ℕ) (i : ℕ) → i + 2 ≤ length r → slice i 2 r ≡ byte i r ∷ byte (i + 1) r ∷ []
 unfolding slice
@@ -44,12 +45,25 @@ pub half-number : (r : List ℕ) (i : ℕ) → i + 2 ≤ length r → byte i r +
 unfolding fromLittleEndian
 half-number r i h = rw (two r i h) (omega arith)
 
-pub word-number : (r : List ℕ) (i : ℕ) → i + 4 ≤ length r
-    → fromLittleEndian (slice i 2 r) + 65536 * fromLittleEndian (slice (i + 2) 2 r) ≡ fromLittleEndian (slice i 4 r)
+-- two parts side by side
+pub slice-add : (i m n : ℕ) (r : List ℕ) → slice i (m + n) r ≡ slice i m r ++ slice (i + m) n r
+unfolding slice
+slice-add i m n r = take-add m n (drop i r) ∙ ap (λ (l : List ℕ). take m (drop i r) ++ take n l) (drop-drop m i r)
+
+number-append : (xs ys : List ℕ) → fromLittleEndian (xs ++ ys) ≡ fromLittleEndian xs + 256 ^ length xs * fromLittleEndian ys
 unfolding fromLittleEndian
-word-number r i h =
-    let e : i + 2 + 1 ≡ i + 3 = omega arith in
-    rw (two r i (omega arith), two r (i + 2) (omega arith), four r i h, e) (omega arith)
+number-append [] ys = omega arith
+number-append (x ∷ xs) ys =
+    let e : 256 ^ suc (length xs) * fromLittleEndian ys ≡ 256 * (256 ^ length xs * fromLittleEndian ys)
+    = ap (λ (n : ℕ). n * fromLittleEndian ys) (pow-suc 256 (length xs) ∙ mul-comm (256 ^ length xs) 256) ∙ mul-assoc 256 (256 ^ length xs) (fromLittleEndian ys) in
+    omega (arith, number-append xs ys, e)
+
+-- a number in two parts
+pub number-add : (i m n : ℕ) (r : List ℕ) → i + m ≤ length r
+    → fromLittleEndian (slice i m r) + 256 ^ m * fromLittleEndian (slice (i + m) n r) ≡ fromLittleEndian (slice i (m + n) r)
+number-add i m n r h =
+    sym (ap fromLittleEndian (slice-add i m n r) ∙ number-append (slice i m r) (slice (i + m) n r)
+    ∙ ap (λ (k : ℕ). fromLittleEndian (slice i m r) + 256 ^ k * fromLittleEndian (slice (i + m) n r)) (length-slice i m r h))
 
 -- two and four bytes one by one
 pub all-two : (l : List ℕ) → length l ≡ 2 → l ≡ byte 0 l ∷ byte 1 l ∷ []

@@ -35,6 +35,16 @@ pub fn read_u32(t: &[u8], at: usize) -> u32
     low + 65536 * high
 }
 
+// The number in eight bytes from place at on.
+pub fn read_u64(t: &[u8], at: usize) -> u64
+    requires { ⌜ at + 8 ≤ length (now t) ⌝ }
+    ensures { λ r. ⌜ r ≡ fromLittleEndian (slice at 8 (now (t .entry))) ⌝ }
+{
+    let low = read_u32(t, at) as u64;
+    let high = read_u32(t, at + 4) as u64;
+    low + 4294967296 * high
+}
+
 // Copies src into t from place i on.
 pub fn copy_into(t: &mut [u8], i: usize, src: &[u8])
     requires { ⌜ i + length (now src) ≤ length (now t) ⌝ }

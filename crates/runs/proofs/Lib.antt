@@ -1,2 +1,2 @@
-pub mod KnownSound
 pub mod Replays
+pub mod TableStatus

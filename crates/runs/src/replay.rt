@@ -1,22 +1,20 @@
 // A whole log replayed over the tables.
 ghost use mathlib.Core.Path.{_≡_};
-ghost use mathlib.Core.Bool.{true};
 ghost use Prim.Native.Nat.{_*_, _≤_, _<_};
 ghost use lib.ListN.{length, drop};
 ghost use Rattle.ranks.specs.Table.{byte};
-ghost use Rattle.manager.specs.Outcomes.{tables};
-ghost use Rattle.runs.specs.Known.{KnownSound};
+ghost use Rattle.specification.specs.Answer.{firstStatus};
+ghost use Rattle.manager.specs.Outcomes.{tables, tableRefusals};
 ghost use Rattle.runs.specs.Replay.{outcomeFor, replayedAs, countOf, replayedFront, replayedInto};
 use crate::answer::answer;
 use crate::answer::answer_record;
 use calllog::call::LogResult;
 use calllog::reader::read_at;
-use manager::call::right_lengths;
+use manager::call::table_refusal;
 use records::bytes::copy_into;
-use soundness::search::is_sound;
 
 // The message field of a record, which a short part may not have.
-fn message_field(part: &[u8]) -> &[u8]
+pub fn message_field(part: &[u8]) -> &[u8]
     ensures { λ r. ⌜ now r ≡ drop 16 (now (part .entry)) ⌝ }
 {
     let n = part.len();
@@ -26,20 +24,20 @@ fn message_field(part: &[u8]) -> &[u8]
     &part[16..]
 }
 
-// One record of a log, where the reader found this: its answer record.
+// One record of a log, where the reader found this and the tests of the tables gave this status: its answer record.
 fn replay_record(
     queues: &mut [u8],
     pool: &mut [u8],
     tasks: &mut [u8],
     found: LogResult,
     part: &[u8],
-    known: bool,
+    status: u8,
 ) -> [u8; 16]
-    requires { ⌜ (0 < length (now part)) × (known ≡ true → KnownSound (tables (now queues) (now pool) (now tasks))) ⌝ }
+    requires { ⌜ (0 < length (now part)) × (status ≡ firstStatus (tableRefusals (tables (now queues) (now pool) (now tasks)))) ⌝ }
     ensures { λ r. ⌜ (record { answers = r; after = tables (now (queues .exit)) (now (pool .exit)) (now (tasks .exit)) })
         ≡ replayedAs (outcomeFor (tables (now (queues .entry)) (now (pool .entry)) (now (tasks .entry))) found (drop 16 (now (part .entry)))) (byte 0 (now (part .entry))) ⌝ }
 {
-    let a = answer(queues, pool, tasks, found, message_field(part), known);
+    let a = answer(queues, pool, tasks, found, message_field(part), status);
     answer_record(a, part[0])
 }
 
@@ -53,24 +51,14 @@ pub fn record_count(n: usize) -> usize
     n / 136 + 1
 }
 
-// The tables have the right lengths and are sound.
-fn known_sound(queues: &[u8], pool: &[u8], tasks: &[u8]) -> bool
-    ensures { λ r. ⌜ (r ≡ true → KnownSound (tables (now (queues .entry)) (now (pool .entry)) (now (tasks .entry)))) ⌝ }
-{
-    if !right_lengths(queues, pool, tasks) {
-        return false;
-    }
-    is_sound(queues, pool, tasks)
-}
-
 // Replays a log. The answer records go to the front of the lent bytes, which have room for them.
-// Tables that are sound stay sound: they are searched once, before the first record. Tables that are not are searched at each call.
+// The tables are searched once, before the first record: sound tables stay sound, and calls on others are refused and change nothing.
 fn replay_all(queues: &mut [u8], pool: &mut [u8], tasks: &mut [u8], log: &[u8], answers: &mut [u8])
     requires { ⌜ countOf (length (now log)) * 16 ≤ length (now answers) ⌝ }
     ensures { λ _. ⌜ (record { answers = now (answers .exit); after = tables (now (queues .exit)) (now (pool .exit)) (now (tasks .exit)) })
         ≡ replayedFront (tables (now (queues .entry)) (now (pool .entry)) (now (tasks .entry))) (now (log .entry)) (now (answers .entry)) ⌝ }
 {
-    let known = known_sound(queues, pool, tasks);
+    let status = table_refusal(queues, pool, tasks);
     let n = record_count(log.len());
     let mut i = 0;
     while i < n {
@@ -78,7 +66,7 @@ fn replay_all(queues: &mut [u8], pool: &mut [u8], tasks: &mut [u8], log: &[u8], 
         let step = read_at(log, at);
         let next = step.next;
         let found = step.result;
-        let a = replay_record(queues, pool, tasks, found, &log[at..next], known);
+        let a = replay_record(queues, pool, tasks, found, &log[at..next], status);
         let to = i * 16;
         copy_into(answers, to, &a);
         i += 1;

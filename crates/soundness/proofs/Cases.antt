@@ -1,17 +1,28 @@
 -- The rules of one record, as the code tests them. Assumes nothing.
 use Prim.Native.Nat.{ℕ, suc, pred, _≤_, _<_}
 use native.Mathlib.Omega.{arith}
-use mathlib.Core.Path.{_≡_, refl, ap}
-use mathlib.Core.Bool.{Bool, true, false, _&&_, _||_, and-true, and-assoc}
-use mathlib.Core.List.{[], _∷_}
+use mathlib.Core.Path.{_≡_, refl, sym, ap, ap₂, _∙_}
+use mathlib.Core.Bool.{Bool, true, false, _&&_, _||_, and-true, and-false, and-assoc}
+use mathlib.Core.Logic.{⊎-elim}
+use mathlib.Core.List.{List, [], _∷_}
 use lib.Dec.{eqb, leb}
-use lib.ListN.{drop}
-use borrow.Author.Tests.{eq-eqb, ne-eqb, lt-ltb, le-ltb, le-leb, lt-leb}
+use lib.ListN.{length, drop}
+use borrow.Author.Tests.{eqb-true, eq-eqb, ne-eqb, lt-ltb, le-ltb, le-leb, lt-leb}
 use Rattle.ranks.specs.Lists.{all, allZero, within}
-use Rattle.ranks.proofs.Lists.{all-cons, all-nil}
+use Rattle.ranks.specs.Table.{slice, byte}
+use Rattle.ranks.proofs.Tests.{both}
+use Rattle.ranks.proofs.Lists.{all-cons, all-nil, holds, held}
 use Rattle.records.specs.Split.{shareOfSlot, shareOfBuffer, shareOfTask}
 use Rattle.records.specs.Records.{Queue, Buffer, Task, State, queueAt, isLive, isOpen, sizeAllowed}
+use Rattle.records.specs.Bytes.{fromLittleEndian}
+use Rattle.records.proofs.ZeroBytes.{zero-number, zeros-one, zeros-add}
+use Rattle.specification.proofs.Rules.{Live, Free, queue-rules}
 use Rattle.specification.specs.Sound.{slotIn, soundQueue, liveQueueRules, freeQueueRules, limitIn, soundBuffer, freeBufferRules, usedBufferRules, soundTask, taskRules, readyTaskRules, waitingTaskRules}
+
+pub same-truth : (a b : Bool) → (a ≡ true → b ≡ true) → (b ≡ true → a ≡ true) → a ≡ b
+same-truth true b h k = sym (h refl)
+same-truth false true h k = k refl
+same-truth false false h k = refl
 
 -- ---- Queues
 
@@ -42,15 +53,19 @@ module _ (q : Queue) where
     pub limit-foreign : (shareOfSlot slot ≡ share → ⊥) → 0 ≡ limitIn share slot q
     limit-foreign ne = rw (ne-eqb (shareOfSlot slot) share ne)
 
-    pub limit-free : (q .live ≡ 1 → ⊥) → 0 ≡ limitIn share slot q
+    limit-free : (q .live ≡ 1 → ⊥) → 0 ≡ limitIn share slot q
     limit-free ne = rw (ne-eqb (q .live) 1 ne) (go (eqb (shareOfSlot slot) share))
       where
         go : (b : Bool) → _≡_ {A = ℕ} 0 (elim (b && false) [ true ↦ q .limit | false ↦ 0 ])
         go true = refl
         go false = refl
 
-    pub limit-live : shareOfSlot slot ≡ share → q .live ≡ 1 → q .limit ≡ limitIn share slot q
+    limit-live : shareOfSlot slot ≡ share → q .live ≡ 1 → q .limit ≡ limitIn share slot q
     limit-live e l = rw (eq-eqb (shareOfSlot slot) share e, eq-eqb (q .live) 1 l)
+
+    pub limit-own : shareOfSlot slot ≡ share → soundQueue q ≡ true → q .limit ≡ limitIn share slot q
+    limit-own e is =
+        ⊎-elim (λ (l : Live q). limit-live e (l .live)) (λ (f : Free q). f .limit ∙ limit-free (λ l. let z : q .live ≡ 0 = f .live in omega arith)) (queue-rules q is)
 
 -- ---- Positions
 
@@ -89,32 +104,67 @@ module _ (s : State) (b : ℕ) (m : Buffer) where
 
 -- ---- Tasks
 
+-- the tests of a ready task in the order of the code, and in that of the rules
+same-tests : (a b c d e t u p s l : Bool) → all (a ∷ b ∷ c ∷ d ∷ e ∷ t ∷ u ∷ p ∷ s ∷ l ∷ []) ≡ all (p ∷ d ∷ e ∷ u ∷ a ∷ b ∷ c ∷ t ∷ s ∷ l ∷ [])
+same-tests a b c d e t u p s l =
+    same-truth _ _
+    (λ x.
+    let (a, (b, (c, (d, (e, (t, (u, (p, (s, (l, _)))))))))) = holds (a ∷ b ∷ c ∷ d ∷ e ∷ t ∷ u ∷ p ∷ s ∷ l ∷ []) x in
+    held (_ ∷ _ ∷ _ ∷ _ ∷ _ ∷ _ ∷ _ ∷ _ ∷ _ ∷ _ ∷ []) (p, (d, (e, (u, (a, (b, (c, (t, (s, (l, tt)))))))))))
+    (λ x.
+    let (p, (d, (e, (u, (a, (b, (c, (t, (s, (l, _)))))))))) = holds (p ∷ d ∷ e ∷ u ∷ a ∷ b ∷ c ∷ t ∷ s ∷ l ∷ []) x in
+    held (_ ∷ _ ∷ _ ∷ _ ∷ _ ∷ _ ∷ _ ∷ _ ∷ _ ∷ _ ∷ []) (a, (b, (c, (d, (e, (t, (u, (p, (s, (l, tt)))))))))))
+
+module _ (r : List ℕ) (long : length r ≡ 136) where
+  pub ready-tests : (a b c p s l : Bool)
+      → (a && b && c && eqb (byte 6 r) 0 && eqb (byte 7 r) 0 && allZero (slice 8 8 r) && p && s && l)
+      ≡ (all (p ∷ allZero (slice 6 2 r) ∷ allZero (slice 12 4 r) ∷ []) && all (a ∷ b ∷ c ∷ eqb (fromLittleEndian (slice 8 4 r)) 0 ∷ s ∷ l ∷ []))
+  ready-tests a b c p s l =
+      ap (λ (z : Bool). a && b && c && eqb (byte 6 r) 0 && eqb (byte 7 r) 0 && z && p && s && l) (sym (zeros-add 8 4 4 r))
+      ∙ flat a b c (eqb (byte 6 r) 0) (eqb (byte 7 r) 0) (allZero (slice 8 4 r)) (allZero (slice 12 4 r)) p s l
+      ∙ sym (spell a b c (eqb (byte 6 r) 0) (eqb (byte 7 r) 0) (allZero (slice 8 4 r)) (allZero (slice 12 4 r)) p s l)
+      ∙ same-tests a b c (eqb (byte 6 r) 0) (eqb (byte 7 r) 0) (allZero (slice 8 4 r)) (allZero (slice 12 4 r)) p s l
+      ∙ spell p (eqb (byte 6 r) 0) (eqb (byte 7 r) 0) (allZero (slice 12 4 r)) a b c (allZero (slice 8 4 r)) s l
+      ∙ sym (rw (zero-number (slice 8 4 r), pair) (simp (all-cons, all-nil, and-true, and-assoc)))
+    where
+      spell : (a b c d e t u p s l : Bool) → all (a ∷ b ∷ c ∷ d ∷ e ∷ t ∷ u ∷ p ∷ s ∷ l ∷ []) ≡ (a && (b && (c && (d && (e && (t && (u && (p && (s && l)))))))))
+      spell a b c d e t u p s l = simp (all-cons, all-nil, and-true)
+
+      flat : (a b c d e t u p s l : Bool) → (a && b && c && d && e && (t && u) && p && s && l) ≡ (a && (b && (c && (d && (e && (t && (u && (p && (s && l)))))))))
+      flat a b c d e t u p s l = simp and-assoc
+
+      pair : allZero (slice 6 2 r) ≡ (eqb (byte 6 r) 0 && eqb (byte 7 r) 0)
+      pair = sym (zeros-add 6 1 1 r) ∙ sym (ap₂ (λ (x y : Bool). x && y) (zeros-one r 6 (omega arith)) (zeros-one r 7 (omega arith)))
+
 module _ (s : State) (t : ℕ) (w : Task) where
-  pub task-broken : all (taskRules w) ≡ false → false ≡ soundTask s t w
+  pub task-ready : (w .state ≡ 1 → ⊥) → (all (taskRules w) && all (readyTaskRules w)) ≡ soundTask s t w
   unfolding soundTask
-  task-broken e = rw e
+  task-ready ne = rw (ne-eqb (w .state) 1 ne)
 
-  module _ (any : all (taskRules w) ≡ true) where
-    pub task-ready : (w .state ≡ 1 → ⊥) → all (readyTaskRules w) ≡ soundTask s t w
-    unfolding soundTask
-    task-ready ne = rw (any, ne-eqb (w .state) 1 ne)
+  -- all that a ready task has to be
+  pub task-is-ready : (all (taskRules w) && all (readyTaskRules w)) ≡ true → true ≡ soundTask s t w
+  unfolding readyTaskRules
+  task-is-ready e =
+      let zero : w .state ≡ 0 = eqb-true _ _ (holds _ (both (all (taskRules w)) (all (readyTaskRules w)) e .1) .0) in
+      sym e ∙ task-ready (λ one. omega arith)
 
-    pub task-nowhere : w .state ≡ 1 → w .position .queue ≡ 0 → false ≡ soundTask s t w
+  pub task-nowhere : w .state ≡ 1 → w .position .queue ≡ 0 → false ≡ soundTask s t w
+  unfolding soundTask waitingTaskRules
+  task-nowhere o e = rw (eq-eqb (w .state) 1 o, all-cons, lt-leb 1 (w .position .queue) (omega arith), and-false)
+
+  module _ (o : w .state ≡ 1) (slot : ℕ) (e : w .position .queue ≡ suc slot) where
+    named-slot : slotIn (w .position) ≡ slot
+    named-slot = ap pred e
+
+    named : leb 1 (w .position .queue) ≡ true
+    named = le-leb 1 (w .position .queue) (omega arith)
+
+    pub task-beyond : 16 ≤ slot → false ≡ soundTask s t w
     unfolding soundTask waitingTaskRules
-    task-nowhere o e = rw (any, eq-eqb (w .state) 1 o, all-cons, lt-leb 1 (w .position .queue) (omega arith))
+    task-beyond h = rw (eq-eqb (w .state) 1 o, named-slot, named, le-ltb slot 16 h) (simp (all-cons, and-false))
 
-    module _ (o : w .state ≡ 1) (slot : ℕ) (e : w .position .queue ≡ suc slot) where
-      named-slot : slotIn (w .position) ≡ slot
-      named-slot = ap pred e
-
-      named : leb 1 (w .position .queue) ≡ true
-      named = le-leb 1 (w .position .queue) (omega arith)
-
-      pub task-beyond : 16 ≤ slot → false ≡ soundTask s t w
-      unfolding soundTask waitingTaskRules
-      task-beyond h = rw (any, eq-eqb (w .state) 1 o, named-slot, named, le-ltb slot 16 h) (simp all-cons)
-
-      pub task-waiting : slot < 16
-          → (isLive (queueAt s slot) && (eqb (shareOfSlot slot) (shareOfTask t) || isOpen (queueAt s slot)) && eqb (w .status) 14 && eqb (w .messageLength) 0) ≡ soundTask s t w
-      unfolding soundTask waitingTaskRules
-      task-waiting h = rw (any, eq-eqb (w .state) 1 o, named-slot, named, lt-ltb slot 16 h) (simp (all-cons, all-nil, and-true, and-assoc))
+    pub task-waiting : slot < 16
+        → (all (taskRules w) && (isLive (queueAt s slot) && (eqb (shareOfSlot slot) (shareOfTask t) || isOpen (queueAt s slot)) && eqb (w .status) 14 && eqb (w .messageLength) 0))
+        ≡ soundTask s t w
+    unfolding soundTask waitingTaskRules
+    task-waiting h = rw (eq-eqb (w .state) 1 o, named-slot, named, lt-ltb slot 16 h) (simp (all-cons, all-nil, and-true, and-assoc))

@@ -1,5 +1,6 @@
 pub mod Cases
+pub mod Marks
 pub mod Orders
-pub mod Ranks
+pub mod Passes
 pub mod Searched
 pub mod Whole

@@ -1,64 +1,118 @@
 -- The order of waiters by priority, as the code tests it. Assumes nothing.
-use Prim.Native.Nat.{ℕ, suc, _+_, _%_, _<_}
-use native.Mathlib.Numerals.{add-one}
+use Prim.Native.Nat.{ℕ, zero, suc, _+_, _-_, _%_, _≤_, _<_}
 use native.Mathlib.Omega.{arith}
-use mathlib.Core.Path.{_≡_, refl, sym, ap, _∙_, subst}
-use mathlib.Core.Bool.{Bool, true, false, _&&_, _||_, not}
+use mathlib.Core.Path.{_≡_, refl, sym, ap, subst, _∙_}
+use mathlib.Core.Bool.{Bool, true, false, true≢false}
 use mathlib.Core.Logic.{⊎-elim}
-use mathlib.Core.List.{List, [], map}
-use lib.Dec.{eqb, leb, ltb}
-use lib.ListN.{length, getD, length-map}
-use borrow.Author.Tests.{eqb-true, eq-eqb, ltb-true, ltb-false, le-leb, lt-leb}
-use Rattle.ranks.specs.Lists.{_implies_, every, mapWithIndex}
-use Rattle.ranks.specs.Position.{Position, noQueue}
-use Rattle.ranks.specs.Table.{records, positionIn}
+use mathlib.Core.List.{List}
+use lib.ListN.{length, getD, set}
+use lib.Seq.{getD-set-same, getD-set-other}
+use borrow.Author.Tests.{eqb-true, eq-eqb, ltb-true, lt-ltb, leb-true, le-leb}
+use Rattle.ranks.specs.Lists.{_implies_}
+use Rattle.ranks.specs.Position.{Position}
 use Rattle.ranks.specs.Steps.{ranked}
-use Rattle.ranks.proofs.Tests.{either}
-use Rattle.ranks.proofs.Lists.{mapped-cong, every-from}
+use Rattle.ranks.proofs.Tests.{either, both, and, lt-or-ge}
+use Rattle.ranks.proofs.Lists.{every-at, every-from}
 use Rattle.ranks.proofs.Ranks.{Ranked}
 use Rattle.ranks.proofs.Ranked.{implied, implying, from-positions}
-use Rattle.records.specs.Records.{Queue, Task, State, freshTask, hasPriority}
+use Rattle.records.specs.Records.{Queue, Task, State, freshTask, hasPriority, isLive}
 use Rattle.records.specs.Bytes.{decodeTask, decodeTasks}
-use Rattle.records.proofs.Access.{at-map}
+use Rattle.records.proofs.Writing.{length-decoded}
 use Rattle.specification.specs.Sound.{byPriority}
-use Rattle.soundness.specs.Parts.{onlyTasks, positions, queueRanked, inOrder, waiterInOrder, queueInOrder}
+use Rattle.soundness.specs.Parts.{onlyTasks, taskPositions, queueRanked, queueInOrder, OneAtRank, PrioritiesAtRanks}
+use Rattle.soundness.proofs.Passes.{task-positions}
 
--- ---- Positions of decoded records
+-- ---- The tasks of a queue
 
-pub positions-decoded : {A : Type 0} (read : List ℕ → A) (pos : A → Position) (place : ℕ) (d : A) → ((r : List ℕ) → positionIn place r ≡ pos (read r)) → (rs : List (List ℕ))
-    → positions place rs ≡ mapWithIndex (λ j x. pos x) (map read rs)
-positions-decoded read pos place d same rs =
-    mapped-cong (λ j r. positionIn place r) (λ j x. pos x) rs (map read rs) [] d noQueue (sym (length-map rs read))
-    (λ i lt. same (getD rs i []) ∙ ap pos (sym (at-map read rs i [] d lt)))
+module _ (t : List ℕ) where
+  abbrev W : ℕ → Task
+  W j = getD (decodeTasks t) j (freshTask 1)
 
-pub task-positions : (t : List ℕ) → positions 1 (records 32 136 t) ≡ mapWithIndex (λ j w. w .position) (decodeTasks t)
-unfolding decodeTask
-task-positions t = positions-decoded decodeTask (λ w. w .position) 1 (freshTask 1) (λ r. refl) (records 32 136 t)
+  size : length (decodeTasks t) ≡ 32
+  size = length-decoded decodeTask 32 136 t
 
--- ---- Two tasks
+  pub waiters-ranked : (slot n : ℕ) → ranked slot n (taskPositions t) ≡ true → Ranked 32 (λ j. W j .position) slot n
+  waiters-ranked slot n is =
+      subst (λ (k : ℕ). Ranked k (λ j. W j .position) slot n) size
+      (from-positions (λ (w : Task). w .position) (decodeTasks t) (freshTask 1) slot n (subst (λ (ps : List Position). ranked slot n ps ≡ true) (task-positions t) is))
 
-not-less : (a b : ℕ) → leb b a ≡ not (ltb a b)
-not-less a b =
-    ⊎-elim (λ t. lt-leb b a (ltb-true a b t) ∙ ap not (sym t)) (λ f. le-leb b a (ltb-false a b f) ∙ ap not (sym f)) (either (ltb a b))
+  module _ (slot : ℕ) where
+    -- every two that wait in the queue are in order
+    pub in-order : ((i j : ℕ) → i < 32 → j < 32 → W i .position .queue ≡ suc slot → W j .position .queue ≡ suc slot
+        → W i .position .rank < W j .position .rank → W i .priority ≤ W j .priority) → byPriority (onlyTasks t) slot ≡ true
+    unfolding byPriority
+    in-order h =
+        every-from _ (decodeTasks t) (freshTask 1)
+        (λ i hi. implying _ _ (λ qi. every-from _ (decodeTasks t) (freshTask 1)
+        (λ j hj. implying _ _ (λ b.
+        let (qj, lt) = both _ _ b in
+        le-leb _ _ (h i j (omega (arith, size)) (omega (arith, size)) (eqb-true _ _ qi) (eqb-true _ _ qj) (ltb-true _ _ lt))))))
 
-pub in-order : (q slot ra rb : ℕ) (z : Bool) → (not (eqb q (slot + 1)) || leb rb ra || z) ≡ ((eqb q (suc slot) && ltb ra rb) implies z)
-unfolding _implies_
-in-order q slot ra rb z = rw (add-one, not-less ra rb) (go (eqb q (suc slot)) (ltb ra rb))
-  where
-    go : (x y : Bool) → (not x || not y || z) ≡ (elim (x && y) [ true ↦ z | false ↦ true ])
-    go true true = refl
-    go true false = refl
-    go false y = refl
+    -- two that are not
+    pub out-of-order : (i j : ℕ) → i < 32 → j < 32 → W i .position .queue ≡ suc slot → W j .position .queue ≡ suc slot
+        → W i .position .rank < W j .position .rank → W j .priority < W i .priority → byPriority (onlyTasks t) slot ≡ false
+    unfolding byPriority
+    out-of-order i j hi hj qi qj lt worse = ⊎-elim (λ is. absurd (wrong is)) (λ f. f) (either (byPriority (onlyTasks t) slot))
+      where
+        wrong : byPriority (onlyTasks t) slot ≡ true → ⊥
+        wrong is =
+            let inner = implied (every-at _ (decodeTasks t) (freshTask 1) is i (omega (arith, size))) (eq-eqb _ _ qi) in
+            let le : W i .priority ≤ W j .priority = leb-true _ _ (implied (every-at _ (decodeTasks t) (freshTask 1) inner j (omega (arith, size))) (and (eq-eqb _ _ qj) (lt-ltb _ _ lt))) in
+            omega (arith, le)
 
--- ---- One waiter
+    -- ---- Priorities by rank
 
-module _ (ts : List Task) (slot : ℕ) (a : Task) where
-  pub waiter-elsewhere : (a .position .queue ≡ suc slot → ⊥) → true ≡ waiterInOrder ts slot 0 a
-  waiter-elsewhere ne = sym (implying _ _ (λ q. absurd (ne (eqb-true _ _ q))))
+    module _ (one : OneAtRank slot (decodeTasks t)) (k : ℕ) (l : List ℕ) (noted : PrioritiesAtRanks slot k (decodeTasks t) l) where
+      pub note-one : k < 32 → W k .position .queue ≡ suc slot → W k .position .rank < length l
+          → PrioritiesAtRanks slot (k + 1) (decodeTasks t) (set l (W k .position .rank) (W k .priority))
+      note-one hk here inside j hj q =
+          ⊎-elim
+          (λ (lt : j < k).
+          getD-set-other l (W k .position .rank) (W j .position .rank) (W k .priority) 0
+          (λ (same : W j .position .rank ≡ W k .position .rank). let x : j ≡ k = one j k (omega arith) hk q here same in omega arith) ∙ noted j lt q)
+          (λ (ge : k ≤ j).
+          let x : j ≡ k = omega arith in
+          subst (λ (i : ℕ). getD (set l (W k .position .rank) (W k .priority)) (W i .position .rank) 0 ≡ W i .priority) (sym x)
+          (getD-set-same l (W k .position .rank) (W k .priority) 0 inside)) (lt-or-ge j k)
 
-  pub waiter-here : a .position .queue ≡ suc slot → every (inOrder slot a) ts ≡ waiterInOrder ts slot 0 a
-  unfolding _implies_
-  waiter-here e = rw (eq-eqb _ _ e)
+      pub note-none : (W k .position .queue ≡ suc slot → ⊥) → PrioritiesAtRanks slot (k + 1) (decodeTasks t) l
+      note-none elsewhere j hj q =
+          ⊎-elim (λ (lt : j < k). noted j lt q)
+          (λ (ge : k ≤ j). absurd (elsewhere (subst (λ (i : ℕ). W i .position .queue ≡ suc slot) (let x : j ≡ k = omega arith in x) q))) (lt-or-ge j k)
+
+    module _ (n : ℕ) (is : ranked slot n (taskPositions t) ≡ true) where
+      r : Ranked 32 (λ j. W j .position) slot n
+      r = waiters-ranked slot n is
+
+      pub one-at-rank : OneAtRank slot (decodeTasks t)
+      one-at-rank i j hi hj qi qj x = r .one i j hi hj qi qj x
+
+      pub few-in-order : n < 2 → byPriority (onlyTasks t) slot ≡ true
+      few-in-order h = in-order (λ i j hi hj qi qj lt. absurd (omega (arith, r .below j hj qj)))
+
+      module _ (l : List ℕ) (noted : PrioritiesAtRanks slot 32 (decodeTasks t) l) where
+        -- no priority is below the one before it
+        pub rising : ((k : ℕ) → 1 ≤ k → k < n → getD l (k - 1) 0 ≤ getD l k 0) → byPriority (onlyTasks t) slot ≡ true
+        rising step =
+            in-order (λ i j hi hj qi qj lt.
+            let le : getD l (W i .position .rank) 0 ≤ getD l (W j .position .rank) 0 =
+            far (W i .position .rank) (W j .position .rank - W i .position .rank) (W j .position .rank) (omega arith) (r .below j hj qj) in
+            omega (arith, noted i hi qi, noted j hj qj))
+          where
+            far : (a d b : ℕ) → b ≡ a + d → b < n → getD l a 0 ≤ getD l b 0
+            far a zero b x h = let y : b ≡ a = omega arith in subst (λ (i : ℕ). getD l a 0 ≤ getD l i 0) (sym y) (omega arith)
+            far a (suc d) b x h =
+                let before : getD l a 0 ≤ getD l (b - 1) 0 = far a d (b - 1) (omega arith) (omega arith) in
+                let next : getD l (b - 1) 0 ≤ getD l b 0 = step b (omega arith) h in
+                omega arith
+
+        pub falling : (k : ℕ) → 1 ≤ k → k < n → getD l k 0 < getD l (k - 1) 0 → byPriority (onlyTasks t) slot ≡ false
+        falling k low h less =
+            let (i, hi, qi, ri) = r .some (k - 1) (omega arith) in
+            let (j, hj, qj, rj) = r .some k h in
+            let pi : getD l (k - 1) 0 ≡ W i .priority = ap (λ (x : ℕ). getD l x 0) (sym ri) ∙ noted i hi qi in
+            let pj : getD l k 0 ≡ W j .priority = ap (λ (x : ℕ). getD l x 0) (sym rj) ∙ noted j hj qj in
+            out-of-order i j hi hj qi qj (omega arith) (omega arith)
 
 -- ---- One queue
 
@@ -73,17 +127,7 @@ module _ (s : State) (slot : ℕ) (q : Queue) where
   unfolding _implies_
   order-tested l p = rw (eq-eqb (q .live) 1 l, eq-eqb (q .attributes % 2) 1 p)
 
--- a queue without waiters
-pub order-nobody : (t : List ℕ) (slot : ℕ) (q : Queue) → q .live ≡ 1 → q .waiters ≡ 0 → queueRanked false (positions 1 (records 32 136 t)) slot q ≡ true
+-- fewer than two waiters
+pub order-few : (t : List ℕ) (slot : ℕ) (q : Queue) → q .waiters < 2 → queueRanked false (taskPositions t) slot q ≡ true
     → true ≡ queueInOrder (onlyTasks t) slot q
-unfolding byPriority
-order-nobody t slot q l w e = sym (implying _ _ (λ _. implying _ _ (λ _. every-from (waiterInOrder (decodeTasks t) slot) (decodeTasks t) (freshTask 1) alone)))
-  where
-    none : Ranked (length (decodeTasks t)) (λ j. getD (decodeTasks t) j (freshTask 1) .position) slot 0
-    none =
-        from-positions (λ (w : Task). w .position) (decodeTasks t) (freshTask 1) slot 0
-        (subst (λ (ps : List Position). ranked slot 0 ps ≡ true) (task-positions t)
-        (subst (λ (n : ℕ). ranked slot n (positions 1 (records 32 136 t)) ≡ true) w (implied e (eq-eqb _ _ l))))
-
-    alone : (i : ℕ) → i < length (decodeTasks t) → waiterInOrder (decodeTasks t) slot i (getD (decodeTasks t) i (freshTask 1)) ≡ true
-    alone i h = implying _ _ (λ p. absurd (let z = none .below i h (eqb-true _ _ p) in omega arith))
+order-few t slot q w is = sym (implying _ _ (λ l. implying _ _ (λ _. few-in-order t slot (q .waiters) (implied is l) w)))

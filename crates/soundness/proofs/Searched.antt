@@ -1,5 +1,5 @@
--- A search from the front: what is left to look at decides. Zero bytes and sums. Assumes nothing.
-use Prim.Native.Nat.{ℕ, zero, suc, _+_, _-_, _≤_, _<_}
+-- Zero bytes of a record, and sums from the front: what is left to look at decides. Assumes nothing.
+use Prim.Native.Nat.{ℕ, _+_, _≤_, _<_}
 use native.Mathlib.Nat.{add-zero}
 use native.Mathlib.Numerals.{add-one}
 use native.Mathlib.Omega.{arith}
@@ -7,12 +7,14 @@ use mathlib.Core.Path.{_≡_, sym, ap, _∙_}
 use mathlib.Core.Bool.{Bool, _&&_, and-true, and-assoc}
 use mathlib.Core.List.{List, [], _∷_}
 use lib.Dec.{eqb}
-use lib.ListN.{length, getD, take, drop, drop-of-length-le}
-use lib.Seq.{drop-cons, drop-drop, take-nil}
+use lib.ListN.{length, getD, take, drop, length-drop, drop-of-length-le}
+use lib.Seq.{drop-cons, drop-drop, take-all}
+use borrow.Author.Tests.{eq-eqb}
 use Rattle.ranks.specs.Lists.{allZero, sum}
 use Rattle.ranks.proofs.Lists.{zeros-cons, zeros-nil}
 use Rattle.ranks.specs.Table.{slice, byte}
 use Rattle.records.proofs.Writing.{all-four}
+use Rattle.records.proofs.ZeroBytes.{zeros-one, zeros-add, zeros-rest}
 
 -- ---- Zero bytes
 
@@ -21,25 +23,6 @@ zeros-four l e = sym (ap allZero (all-four l e) ∙ spell (byte 0 l) (byte 1 l) 
   where
     spell : (a b c d : ℕ) → allZero (a ∷ b ∷ c ∷ d ∷ []) ≡ (eqb a 0 && eqb b 0 && eqb c 0 && eqb d 0)
     spell a b c d = simp (zeros-cons, zeros-nil, and-true, and-assoc)
-
-module _ (t : List ℕ) (to : ℕ) where
-  pub zeros-more : (i : ℕ) → i < to → to ≤ length t → (ok : Bool) {z : Bool} → (ok && allZero (slice i (to - i) t)) ≡ z
-      → (ok && eqb (byte i t) 0 && allZero (slice (i + 1) (to - (i + 1)) t)) ≡ z
-  unfolding slice
-  zeros-more i h k ok inv =
-      let e : to - i ≡ suc (to - (i + 1)) = omega arith in
-      and-assoc ok (eqb (byte i t) 0) _
-      ∙ ap (λ (b : Bool). ok && b)
-      (sym (zeros-cons (byte i t) (take (to - (i + 1)) (drop (i + 1) t)))
-      ∙ ap (λ (n : ℕ). allZero (byte i t ∷ take (to - (i + 1)) (drop n t))) (add-one i)
-      ∙ sym (ap (λ (n : ℕ). allZero (take n (drop i t))) e ∙ ap (λ (l : List ℕ). allZero (take (suc (to - (i + 1))) l)) (drop-cons t i 0 (omega arith))))
-      ∙ inv
-
-  pub zeros-end : (i : ℕ) → to ≤ i → (ok : Bool) {z : Bool} → (ok && allZero (slice i (to - i) t)) ≡ z → ok ≡ z
-  unfolding slice
-  zeros-end i h ok inv =
-      let e : to - i ≡ 0 = omega arith in
-      sym (and-true ok) ∙ ap (λ (b : Bool). ok && b) (sym (ap (λ (n : ℕ). allZero (take n (drop i t))) e ∙ zeros-nil)) ∙ inv
 
 -- ---- Sums
 
@@ -54,17 +37,26 @@ module _ (l : List ℕ) where
   unfolding sum
   sum-end i n h inv = sym (add-zero n) ∙ ap (λ (k : List ℕ). n + sum k) (sym (drop-of-length-le l h)) ∙ inv
 
--- ---- Parts of a record
+-- ---- Parts of a buffer record
 
-drop-take : {A : Type 0} (m k : ℕ) (l : List A) → drop m (take k l) ≡ take (k - m) (drop m l)
-drop-take zero k l = ap (λ (n : ℕ). take n l) (let e : k ≡ k - 0 = omega arith in e)
-drop-take (suc m) zero l = ap (λ (n : ℕ). take n (drop (suc m) l)) (let e : 0 ≡ 0 - suc m = omega arith in e)
-drop-take (suc m) (suc k) [] = sym (take-nil (suc k - suc m))
-drop-take (suc m) (suc k) (x ∷ l) = drop-take m k l ∙ ap (λ (n : ℕ). take n (drop m l)) (let e : k - m ≡ suc k - suc m = omega arith in e)
+module _ (r : List ℕ) (long : length r ≡ 128) where
+  -- "8-127 data" is what stands from byte 8 on
+  data-part : slice 8 120 r ≡ drop 8 r
+  unfolding slice
+  data-part = take-all 120 (drop 8 r) (omega (arith, length-drop 8 r))
 
--- what stands after a message of m bytes
-pub after-message : (r : List ℕ) (m : ℕ) → slice (8 + m) (128 - (8 + m)) r ≡ drop m (slice 8 120 r)
-unfolding slice
-after-message r m =
-    sym (drop-take m 120 (drop 8 r) ∙ ap (take (120 - m)) (drop-drop m 8 r)
-    ∙ ap (λ (n : ℕ). take n (drop (8 + m) r)) (let e : 120 - m ≡ 128 - (8 + m) = omega arith in e))
+  -- what stands after a message of m bytes
+  pub after-message : (m : ℕ) → allZero (drop (8 + m) r) ≡ allZero (drop m (slice 8 120 r))
+  after-message m = ap allZero (sym (ap (drop m) data-part ∙ drop-drop m 8 r))
+
+  -- "3-7 zero"
+  pub reserved-part : allZero (slice 3 4 r) && eqb (byte 7 r) 0 ≡ allZero (slice 3 5 r)
+  reserved-part = ap (λ (b : Bool). allZero (slice 3 4 r) && b) (zeros-one r 7 (omega arith)) ∙ zeros-add 3 4 1 r
+
+  -- a record without an owner is zero if its other fields are
+  pub all-zero : byte 0 r ≡ 0 → allZero r ≡ (eqb (byte 1 r) 0 && (eqb (byte 2 r) 0 && (allZero (slice 3 5 r) && allZero (slice 8 120 r))))
+  all-zero e =
+      ap allZero (drop-cons r 0 0 (omega arith)) ∙ zeros-cons (byte 0 r) (drop 1 r) ∙ ap (λ (b : Bool). b && allZero (drop 1 r)) (eq-eqb (byte 0 r) 0 e)
+      ∙ ap allZero (drop-cons r 1 0 (omega arith)) ∙ zeros-cons (byte 1 r) (drop 2 r)
+      ∙ ap (λ (b : Bool). eqb (byte 1 r) 0 && b) (ap allZero (drop-cons r 2 0 (omega arith)) ∙ zeros-cons (byte 2 r) (drop 3 r)
+      ∙ ap (λ (b : Bool). eqb (byte 2 r) 0 && b) (sym (zeros-rest 3 5 r) ∙ ap (λ (l : List ℕ). allZero (slice 3 5 r) && allZero l) (sym data-part)))

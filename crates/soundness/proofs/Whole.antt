@@ -2,7 +2,7 @@
 use Prim.Native.Nat.{ℕ, suc, _+_, _≤_, _<_}
 use native.Mathlib.Omega.{arith}
 use mathlib.Core.Path.{_≡_, refl, sym, ap, _∙_}
-use mathlib.Core.Bool.{Bool, true, false, _&&_, not, and-true, and-assoc}
+use mathlib.Core.Bool.{Bool, true, false, _&&_, not, and-true, and-assoc, and-comm}
 use mathlib.Core.Logic.{⊎-elim}
 use mathlib.Core.List.{List, [], _∷_}
 use lib.ListN.{length, getD}
@@ -19,16 +19,11 @@ use Rattle.records.proofs.Tabled.{slot-share-below, buffers-end, share-buffers}
 use Rattle.specification.specs.Sound.{soundQueue, limits, soundLimits, soundBuffer, soundRanks, byPriority, soundTask, sound}
 use Rattle.specification.proofs.Rules.{Unused, Used, buffer-rules}
 use Rattle.records.proofs.Writing.{length-decoded}
-use Rattle.soundness.specs.Parts.{onlyQueues, onlyTasks, positions, partStart, partSize, Among, queueRanked, queueInOrder}
-use Rattle.soundness.proofs.Ranks.{length-positions}
-use Rattle.soundness.proofs.Orders.{positions-decoded, task-positions}
+use Rattle.soundness.specs.Parts.{onlyQueues, onlyTasks, poolPositions, taskPositions, queueRanked, queueInOrder}
+use Rattle.soundness.proofs.Cases.{same-truth}
+use Rattle.soundness.proofs.Passes.{pool-positions, task-positions}
 
 -- ---- A test of two things
-
-same-truth : (a b : Bool) → (a ≡ true → b ≡ true) → (b ≡ true → a ≡ true) → a ≡ b
-same-truth true b h k = sym (h refl)
-same-truth false true h k = k refl
-same-truth false false h k = refl
 
 module _ {A : Type 0} (f g : ℕ → A → Bool) (l : List A) (d : A) where
   abbrev pair : ℕ → A → Bool
@@ -47,54 +42,6 @@ unfolding _implies_
 three true a b c = simp (all-cons, all-nil, and-true)
 three false a b c = refl
 
--- ---- The buffers of a queue are among those of its share
-
-pub pool-positions : (p : List ℕ) → positions 0 (records 64 128 p) ≡ mapWithIndex (λ j m. m .position) (decodePool p)
-unfolding decodeBuffer
-pool-positions p = positions-decoded decodeBuffer (λ m. m .position) 0 freeBuffer (λ r. refl) (records 64 128 p)
-
-pub pool-shape : (p : List ℕ) → length p ≡ 8192 → Shape 128 0 64 (length p)
-pool-shape p e = record { inside = omega arith; whole = e }
-
-pub tasks-shape : (t : List ℕ) → length t ≡ 4352 → Shape 136 1 32 (length t)
-tasks-shape t e = record { inside = omega arith; whole = e }
-
-module _ (q p : List ℕ) (e : length p ≡ 8192) (sounds : every (soundBuffer (onlyQueues q)) (decodePool p) ≡ true) where
-  own-share : (slot j : ℕ) → j < 64 → inQueue slot (getD (positions 0 (records 64 128 p)) j noQueue) ≡ true → shareOfSlot slot ≡ shareOfBuffer j
-  own-share slot j h i =
-      ⊎-elim (λ (u : Unused m). absurd (omega (arith, there, u .queue)))
-      (λ (u : Used (onlyQueues q) j m). ap shareOfSlot (let y : slot ≡ u .slot = omega (arith, there, u .queue) in y) ∙ u .share)
-      (buffer-rules (onlyQueues q) j m (every-at (soundBuffer (onlyQueues q)) (decodePool p) freeBuffer sounds j (omega (arith, length-decoded decodeBuffer 64 128 p))))
-    where
-      m : Buffer
-      m = getD (decodePool p) j freeBuffer
-
-      there : m .position .queue ≡ suc slot
-      there =
-          sym (ap (λ (x : Position). x .queue)
-          (ap (λ (l : List Position). getD l j noQueue) (pool-positions p)
-          ∙ at-mapped (λ j m. m .position) (decodePool p) j freeBuffer noQueue (omega (arith, length-decoded decodeBuffer 64 128 p)))) ∙ eqb-true _ _ i
-
-  in-part : (slot j : ℕ) → slot < 16 → j < 64 → inQueue slot (getD (positions 0 (records 64 128 p)) j noQueue) ≡ true
-      → (partStart true slot ≤ j) × (j < partStart true slot + partSize true 64 slot)
-  in-part slot j h k i =
-      let (x, y) = both _ _ (share-buffers (shareOfSlot slot) j (slot-share-below slot h) k ∙ eq-eqb _ _ (own-share slot j k i)) in
-      (leb-true _ _ x, ltb-true _ _ y)
-
-  pub messages-among : (slot : ℕ) → slot < 16 → Among slot (partStart true slot) (partStart true slot + partSize true 64 slot) (positions 0 (records 64 128 p))
-  messages-among slot h =
-      let l = length-positions 128 0 64 p (pool-shape p e) in
-      record {
-        inside = omega (arith, l, buffers-end (shareOfSlot slot) (slot-share-below slot h));
-        start = λ j lt i. let k : j < 64 = omega (arith, l) in in-part slot j h k i .0;
-        stop = λ j lt i. let k : j < 64 = omega (arith, l) in in-part slot j h k i .1;
-      }
-
-pub waiters-among : (t : List ℕ) → length t ≡ 4352 → (slot : ℕ) → slot < 16 → Among slot (partStart false slot) (partStart false slot + partSize false 32 slot) (positions 1 (records 32 136 t))
-waiters-among t e slot h =
-    let l = length-positions 136 1 32 t (tasks-shape t e) in
-    record { inside = omega (arith, l); start = λ j lt i. omega arith; stop = λ j lt i. omega (arith, l) }
-
 -- ---- The parts together
 
 module _ (q p t : List ℕ) where
@@ -102,40 +49,48 @@ module _ (q p t : List ℕ) where
   whole = decode (record { queues = q; pool = p; tasks = t })
 
   ranks-parts : every (λ slot x. isLive x implies soundRanks whole slot x) (decodeQueues q)
-      ≡ (every (queueRanked true (positions 0 (records 64 128 p))) (decodeQueues q)
-      && (every (queueRanked false (positions 1 (records 32 136 t))) (decodeQueues q) && every (queueInOrder (onlyTasks t)) (decodeQueues q)))
+      ≡ (every (queueRanked true (poolPositions p)) (decodeQueues q)
+      && (every (queueRanked false (taskPositions t)) (decodeQueues q) && every (queueInOrder (onlyTasks t)) (decodeQueues q)))
   unfolding decode soundRanks byPriority
   ranks-parts =
       mapped-all
-      ∙ every-and (queueRanked true (positions 0 (records 64 128 p))) (λ slot x. queueRanked false (positions 1 (records 32 136 t)) slot x && queueInOrder (onlyTasks t) slot x) (decodeQueues q) (freeQueue 0)
-      ∙ ap (λ (b : Bool). every (queueRanked true (positions 0 (records 64 128 p))) (decodeQueues q) && b)
-      (every-and (queueRanked false (positions 1 (records 32 136 t))) (queueInOrder (onlyTasks t)) (decodeQueues q) (freeQueue 0))
+      ∙ every-and (queueRanked true (poolPositions p)) (λ slot x. queueRanked false (taskPositions t) slot x && queueInOrder (onlyTasks t) slot x) (decodeQueues q) (freeQueue 0)
+      ∙ ap (λ (b : Bool). every (queueRanked true (poolPositions p)) (decodeQueues q) && b)
+      (every-and (queueRanked false (taskPositions t)) (queueInOrder (onlyTasks t)) (decodeQueues q) (freeQueue 0))
     where
       one : (slot : ℕ) (x : Queue) → (isLive x implies soundRanks whole slot x)
-          ≡ (queueRanked true (positions 0 (records 64 128 p)) slot x && (queueRanked false (positions 1 (records 32 136 t)) slot x && queueInOrder (onlyTasks t) slot x))
+          ≡ (queueRanked true (poolPositions p) slot x && (queueRanked false (taskPositions t) slot x && queueInOrder (onlyTasks t) slot x))
       one slot x = rw (pool-positions p, task-positions t) (three (isLive x) _ _ _)
 
       mapped-all : every (λ slot x. isLive x implies soundRanks whole slot x) (decodeQueues q)
-          ≡ every (λ slot x. queueRanked true (positions 0 (records 64 128 p)) slot x && (queueRanked false (positions 1 (records 32 136 t)) slot x && queueInOrder (onlyTasks t) slot x)) (decodeQueues q)
+          ≡ every (λ slot x. queueRanked true (poolPositions p) slot x && (queueRanked false (taskPositions t) slot x && queueInOrder (onlyTasks t) slot x)) (decodeQueues q)
       mapped-all =
           ap all (mapped-cong (λ slot x. isLive x implies soundRanks whole slot x)
-          (λ slot x. queueRanked true (positions 0 (records 64 128 p)) slot x && (queueRanked false (positions 1 (records 32 136 t)) slot x && queueInOrder (onlyTasks t) slot x)) (decodeQueues q) (decodeQueues q) (freeQueue 0) (freeQueue 0) true refl (λ i h. one i (getD (decodeQueues q) i (freeQueue 0))))
+          (λ slot x. queueRanked true (poolPositions p) slot x && (queueRanked false (taskPositions t) slot x && queueInOrder (onlyTasks t) slot x)) (decodeQueues q) (decodeQueues q) (freeQueue 0) (freeQueue 0) true refl (λ i h. one i (getD (decodeQueues q) i (freeQueue 0))))
 
   -- what the parts of the search say, in its order
   abbrev pub tests : List Bool
   tests =
       every (λ slot x. soundQueue x) (decodeQueues q)
       ∷ soundLimits (onlyQueues q)
-      ∷ every (soundBuffer (onlyQueues q)) (decodePool p)
-      ∷ every (queueRanked true (positions 0 (records 64 128 p))) (decodeQueues q)
-      ∷ every (queueRanked false (positions 1 (records 32 136 t))) (decodeQueues q)
+      ∷ (every (soundBuffer (onlyQueues q)) (decodePool p) && every (queueRanked true (poolPositions p)) (decodeQueues q))
+      ∷ (every (soundTask (onlyQueues q)) (decodeTasks t) && every (queueRanked false (taskPositions t)) (decodeQueues q))
       ∷ every (queueInOrder (onlyTasks t)) (decodeQueues q)
-      ∷ every (soundTask (onlyQueues q)) (decodeTasks t)
       ∷ []
 
   pub parts : all tests ≡ sound whole
   unfolding sound decode soundLimits limits soundBuffer soundTask
-  parts = sym (rw ranks-parts (simp (all-cons, all-nil, and-true, and-assoc)))
+  parts =
+      sym (rw ranks-parts
+      (order (every (λ slot x. soundQueue x) (decodeQueues q)) (soundLimits (onlyQueues q)) (every (soundBuffer (onlyQueues q)) (decodePool p))
+      (every (queueRanked true (poolPositions p)) (decodeQueues q)) (every (queueRanked false (taskPositions t)) (decodeQueues q))
+      (every (queueInOrder (onlyTasks t)) (decodeQueues q)) (every (soundTask (onlyQueues q)) (decodeTasks t))))
+    where
+      -- the rules of tasks stand before the ranks of waiters
+      order : (a b c d e f g : Bool) → all (a ∷ b ∷ c ∷ (d && (e && f)) ∷ g ∷ []) ≡ all (a ∷ b ∷ (c && d) ∷ (g && e) ∷ f ∷ [])
+      order a b c d e f g =
+          simp (all-cons, all-nil, and-true, and-assoc)
+          (ap (λ (x : Bool). a && (b && (c && (d && x)))) (sym (and-assoc e f g) ∙ and-comm (e && f) g))
 
 -- ---- A search that ends at the first part that fails: what is left decides
 

@@ -1,26 +1,31 @@
 // The rules of buffers.
 ghost use mathlib.Core.Path.{_≡_};
-ghost use mathlib.Core.Bool.{_&&_};
+ghost use mathlib.Core.Bool.{true, _&&_};
 ghost use Prim.Native.Nat.{_<_};
-ghost use lib.ListN.{length, drop};
+ghost use lib.ListN.{length, drop, replicate};
 ghost use Rattle.ranks.specs.Lists.{all, allZero, every};
 ghost use Rattle.ranks.specs.Table.{slice, byte};
 ghost use Rattle.records.specs.Records.{isLive, sizeAllowed};
-ghost use Rattle.records.specs.Bytes.{decodeBuffer, decodePool};
-ghost use Rattle.specification.specs.Sound.{freeBufferRules, soundBuffer};
-ghost use Rattle.soundness.specs.Parts.{onlyQueues};
-use crate::bytes::zeros;
+ghost use Rattle.records.specs.Bytes.{decodeBuffer, decodeQueues, decodePool};
+ghost use Rattle.specification.specs.Sound.{soundQueue, freeBufferRules, soundBuffer};
+ghost use Rattle.soundness.specs.Parts.{onlyQueues, poolPositions, queueRanked, Marked, Tested};
+use crate::ranked::every_ranked;
+use crate::ranked::mark;
+use ranks::read_position;
 use records::bytes::wide;
 use records::queue::QueueRecord;
 use records::queue::read_queue;
 use records::shares::owns_buffer;
 use records::shares::share_of_slot;
+use records::zeros::four_zeros;
+use records::zeros::zeros_from;
 
+// A buffer with no owner.
 fn free_buffer(r: &[u8]) -> bool
-    requires { ⌜ length (now r) ≡ 128 ⌝ }
+    requires { ⌜ (length (now r) ≡ 128) × (byte 0 (now r) ≡ 0) ⌝ }
     ensures { λ x. ⌜ x ≡ all (freeBufferRules (decodeBuffer (now (r .entry)))) ⌝ }
 {
-    (r[1] == 0) & (r[2] == 0) & zeros(r, 3, 8) & zeros(r, 8, 128)
+    zeros_from(r, 0)
 }
 
 // The message has a length that the queue allows, and zeros stand before and after it.
@@ -29,7 +34,10 @@ fn message_sound(q: QueueRecord, r: &[u8]) -> bool
     ensures { λ x. ⌜ x ≡ (isLive q && sizeAllowed q (byte 2 (now (r .entry))) && allZero (slice 3 5 (now (r .entry))) && allZero (drop (byte 2 (now (r .entry))) (slice 8 120 (now (r .entry))))) ⌝ }
 {
     let n = wide(r[2]);
-    (q.live == 1) & ((1 <= r[2]) & (r[2] <= q.maxSize)) & zeros(r, 3, 8) & zeros(r, 8 + n, 128)
+    (q.live == 1)
+        & ((1 <= r[2]) & (r[2] <= q.maxSize))
+        & (four_zeros(r, 3) & (r[7] == 0))
+        & zeros_from(r, 8 + n)
 }
 
 // The record of buffer b is as its rules say.
@@ -51,10 +59,12 @@ fn buffer_sound(queues: &[u8], r: &[u8], b: usize) -> bool
     message_sound(read_queue(queues, slot), r)
 }
 
-// Each buffer is as its rules say.
-pub fn buffers_sound(queues: &[u8], pool: &[u8]) -> bool
-    requires { ⌜ (length (now queues) ≡ 256) × (length (now pool) ≡ 8192) ⌝ }
-    ensures { λ x. ⌜ x ≡ every (soundBuffer (onlyQueues (now (queues .entry)))) (decodePool (now (pool .entry))) ⌝ }
+// Each buffer is as its rules say, and those that are used have ranks of their own below the count of their queue, which they mark.
+fn mark_buffers(queues: &[u8], pool: &[u8], seen: &mut [u8]) -> bool
+    requires { ⌜ (length (now queues) ≡ 256) × ((length (now pool) ≡ 8192) × ((every (λ slot q. soundQueue q) (decodeQueues (now queues)) ≡ true) × (now seen ≡ replicate 512 0))) ⌝ }
+    ensures { λ x. ⌜ Tested (every (soundBuffer (onlyQueues (now (queues .entry)))) (decodePool (now (pool .entry))))
+        (every (queueRanked true (poolPositions (now (pool .entry)))) (decodeQueues (now (queues .entry))))
+        (Marked true (decodeQueues (now (queues .entry))) (poolPositions (now (pool .entry))) 64 (now (seen .exit))) x ⌝ }
 {
     let mut good = true;
     'search: for b in 0..64 {
@@ -63,6 +73,23 @@ pub fn buffers_sound(queues: &[u8], pool: &[u8]) -> bool
             good = false;
             break 'search;
         }
+        if !mark(queues, seen, read_position(pool, from), true) {
+            good = false;
+            break 'search;
+        }
     }
     good
+}
+
+// Each buffer is as its rules say, and the messages of each live queue carry the ranks below their count, each exactly once.
+pub fn pool_sound(queues: &[u8], pool: &[u8]) -> bool
+    requires { ⌜ (length (now queues) ≡ 256) × ((length (now pool) ≡ 8192) × (every (λ slot q. soundQueue q) (decodeQueues (now queues)) ≡ true)) ⌝ }
+    ensures { λ x. ⌜ x ≡ (every (soundBuffer (onlyQueues (now (queues .entry)))) (decodePool (now (pool .entry)))
+        && every (queueRanked true (poolPositions (now (pool .entry)))) (decodeQueues (now (queues .entry)))) ⌝ }
+{
+    let mut seen = [0u8; 512];
+    if !mark_buffers(queues, pool, &mut seen) {
+        return false;
+    }
+    every_ranked(queues, &seen, true)
 }

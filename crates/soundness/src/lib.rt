@@ -1,6 +1,5 @@
 // The soundness search: whether three tables are sound.
 pub mod buffers; // buffers.rt: the rules of buffers
-pub mod bytes; // bytes.rt: bytes that have to be zero
 pub mod priorities; // priorities.rt: priorities of waiters
 pub mod queues; // queues.rt: the queues' own rules and the limits of a share
 pub mod ranked; // ranked.rt: the ranks of messages and of waiters

@@ -4,58 +4,41 @@ ghost use mathlib.Core.Bool.{true, false};
 ghost use Prim.Native.Nat.{_*_, _<_};
 ghost use lib.ListN.{length};
 ghost use Rattle.ranks.specs.Lists.{every};
-ghost use Rattle.ranks.specs.Table.{slice, records};
-ghost use Rattle.records.specs.Bytes.{decodeQueue, decodeQueues, decodeTask, decodeTasks};
+ghost use Rattle.ranks.specs.Steps.{ranked};
+ghost use Rattle.ranks.specs.Table.{slice};
+ghost use Rattle.records.specs.Bytes.{decodeQueue, decodeQueues, decodeTasks};
 ghost use Rattle.specification.specs.Sound.{byPriority};
-ghost use Rattle.soundness.specs.Parts.{onlyTasks, positions, queueRanked, inOrder, waiterInOrder, queueInOrder};
+ghost use Rattle.soundness.specs.Parts.{onlyTasks, taskPositions, queueRanked, queueInOrder, OneAtRank, PrioritiesAtRanks};
 use records::bytes::wide;
 use records::queue::read_queue;
+use records::task::read_head;
 
-// The task in b, if it waits in the queue of the slot behind the one in a, is not more urgent.
-fn in_order(slot: usize, a: &[u8], b: &[u8]) -> bool
-    requires { ⌜ (slot < 16) × ((length (now a) ≡ 136) × (length (now b) ≡ 136)) ⌝ }
-    ensures { λ r. ⌜ r ≡ inOrder slot (decodeTask (now (a .entry))) 0 (decodeTask (now (b .entry))) ⌝ }
+// The priorities of the tasks that wait in the queue, by rank.
+fn priorities_by_rank(tasks: &[u8], slot: usize) -> [u8; 256]
+    requires { ⌜ (length (now tasks) ≡ 4352) × ((slot < 16) × OneAtRank slot (decodeTasks (now tasks))) ⌝ }
+    ensures { λ r. ⌜ PrioritiesAtRanks slot 32 (decodeTasks (now (tasks .entry))) r ⌝ }
 {
-    let queue = wide(b[1]);
-    (queue != slot + 1) | (b[2] <= a[2]) | (a[3] <= b[3])
-}
-
-// No task waits in the queue behind the one in a and is more urgent.
-fn all_in_order(tasks: &[u8], slot: usize, a: &[u8]) -> bool
-    requires { ⌜ (length (now tasks) ≡ 4352) × ((slot < 16) × (length (now a) ≡ 136)) ⌝ }
-    ensures { λ r. ⌜ r ≡ every (inOrder slot (decodeTask (now (a .entry)))) (decodeTasks (now (tasks .entry))) ⌝ }
-{
-    let mut good = true;
-    'search: for j in 0..32 {
-        let from = j * 136;
-        if !in_order(slot, a, &tasks[from..from + 136]) {
-            good = false;
-            break 'search;
+    let mut by_rank = [0u8; 256];
+    let mut t = 0;
+    while t < 32 {
+        let h = read_head(tasks, t);
+        if wide(h.queue) == slot + 1 {
+            by_rank[wide(h.rank)] = h.priority;
         }
+        t += 1;
     }
-    good
+    by_rank
 }
 
-// The task in a, if it waits in the queue, is in order with every task.
-fn waiter_in_order(tasks: &[u8], slot: usize, a: &[u8]) -> bool
-    requires { ⌜ (length (now tasks) ≡ 4352) × ((slot < 16) × (length (now a) ≡ 136)) ⌝ }
-    ensures { λ r. ⌜ r ≡ waiterInOrder (decodeTasks (now (tasks .entry))) slot 0 (decodeTask (now (a .entry))) ⌝ }
-{
-    if wide(a[1]) != slot + 1 {
-        return true;
-    }
-    all_in_order(tasks, slot, a)
-}
-
-// Of the tasks that wait in the queue, each is in order with every other.
-fn by_priority(tasks: &[u8], slot: usize) -> bool
-    requires { ⌜ (length (now tasks) ≡ 4352) × (slot < 16) ⌝ }
+// The n tasks that wait in the queue are in order: each is at most as urgent as the one before it.
+fn by_priority(tasks: &[u8], slot: usize, n: usize) -> bool
+    requires { ⌜ (length (now tasks) ≡ 4352) × ((slot < 16) × (ranked slot n (taskPositions (now tasks)) ≡ true)) ⌝ }
     ensures { λ r. ⌜ r ≡ byPriority (onlyTasks (now (tasks .entry))) slot ⌝ }
 {
+    let by_rank = priorities_by_rank(tasks, slot);
     let mut good = true;
-    'search: for i in 0..32 {
-        let from = i * 136;
-        if !waiter_in_order(tasks, slot, &tasks[from..from + 136]) {
+    'search: for rank in 1..n {
+        if by_rank[rank] < by_rank[rank - 1] {
             good = false;
             break 'search;
         }
@@ -65,25 +48,25 @@ fn by_priority(tasks: &[u8], slot: usize) -> bool
 
 // The queue in the slot, if it is live and has PRIORITY, has its waiters in order.
 fn queue_in_order(queues: &[u8], tasks: &[u8], slot: usize) -> bool
-    requires { ⌜ (length (now queues) ≡ 256) × ((length (now tasks) ≡ 4352) × ((slot < 16) × (queueRanked false (positions 1 (records 32 136 (now tasks))) slot (decodeQueue (slice (slot * 16) 16 (now queues))) ≡ true))) ⌝ }
+    requires { ⌜ (length (now queues) ≡ 256) × ((length (now tasks) ≡ 4352) × ((slot < 16) × (queueRanked false (taskPositions (now tasks)) slot (decodeQueue (slice (slot * 16) 16 (now queues))) ≡ true))) ⌝ }
     ensures { λ r. ⌜ r ≡ queueInOrder (onlyTasks (now (tasks .entry))) slot (decodeQueue (slice (slot * 16) 16 (now (queues .entry)))) ⌝ }
 {
     let q = read_queue(queues, slot);
+    if q.waiters < 2 {
+        return true;
+    }
     if q.live != 1 {
         return true;
     }
     if q.attributes % 2 != 1 {
         return true;
     }
-    if q.waiters == 0 {
-        return true;
-    }
-    by_priority(tasks, slot)
+    by_priority(tasks, slot, wide(q.waiters))
 }
 
 // Each live queue with PRIORITY has its waiters in order.
 pub fn priorities_sound(queues: &[u8], tasks: &[u8]) -> bool
-    requires { ⌜ (length (now queues) ≡ 256) × ((length (now tasks) ≡ 4352) × (every (queueRanked false (positions 1 (records 32 136 (now tasks)))) (decodeQueues (now queues)) ≡ true)) ⌝ }
+    requires { ⌜ (length (now queues) ≡ 256) × ((length (now tasks) ≡ 4352) × (every (queueRanked false (taskPositions (now tasks))) (decodeQueues (now queues)) ≡ true)) ⌝ }
     ensures { λ r. ⌜ r ≡ every (queueInOrder (onlyTasks (now (tasks .entry)))) (decodeQueues (now (queues .entry))) ⌝ }
 {
     let mut good = true;

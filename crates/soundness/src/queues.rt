@@ -1,18 +1,24 @@
 // The queues' own rules and the limits of each share.
 ghost use mathlib.Core.Path.{_≡_};
+ghost use mathlib.Core.Bool.{true};
 ghost use Prim.Native.Nat.{_*_, _≤_, _<_};
 ghost use lib.ListN.{length};
-ghost use Rattle.ranks.specs.Lists.{all, every};
+ghost use Rattle.ranks.specs.Lists.{all, allZero, every};
 ghost use Rattle.ranks.specs.Table.{slice};
 ghost use Rattle.records.specs.Bytes.{decodeQueue, decodeQueues};
 ghost use Rattle.specification.specs.Sound.{liveQueueRules, freeQueueRules, soundQueue, limitIn, limits, soundLimits};
 ghost use Rattle.soundness.specs.Parts.{onlyQueues};
-use crate::bytes::four_zeros;
 use records::bytes::wide;
 use records::queue::QueueRecord;
 use records::queue::read_queue;
 use records::shares::share_limit;
 use records::shares::share_of_slot;
+
+fn reserved_zero(reserved: [u8; 4]) -> bool
+    ensures { λ r. ⌜ r ≡ allZero reserved ⌝ }
+{
+    (reserved[0] == 0) & (reserved[1] == 0) & (reserved[2] == 0) & (reserved[3] == 0)
+}
 
 fn live_queue(q: QueueRecord) -> bool
     ensures { λ r. ⌜ r ≡ all (liveQueueRules q) ⌝ }
@@ -23,7 +29,7 @@ fn live_queue(q: QueueRecord) -> bool
         & ((1 <= q.maxSize) & (q.maxSize <= 120))
         & (1 <= q.generation)
         & (1 <= q.name)
-        & four_zeros(s)
+        & reserved_zero(s)
         & (q.pending <= q.limit)
         & ((q.pending == 0) | (q.waiters == 0))
 }
@@ -39,7 +45,7 @@ fn free_queue(q: QueueRecord) -> bool
         & (q.pending == 0)
         & (q.waiters == 0)
         & (q.name == 0)
-        & four_zeros(s)
+        & reserved_zero(s)
 }
 
 fn queue_sound(q: QueueRecord) -> bool
@@ -66,24 +72,21 @@ pub fn queues_sound(queues: &[u8]) -> bool
     good
 }
 
-// What the queue in the slot adds to the limits of the share.
+// What the queue in the slot adds to the limits of the share. The limit of a free queue is 0.
 fn limit_in(queues: &[u8], slot: usize, share: usize) -> usize
-    requires { ⌜ (slot < 16) × (length (now queues) ≡ 256) ⌝ }
+    requires { ⌜ (slot < 16) × ((length (now queues) ≡ 256) × (soundQueue (decodeQueue (slice (slot * 16) 16 (now queues))) ≡ true)) ⌝ }
     ensures { λ r. ⌜ (r ≡ limitIn share slot (decodeQueue (slice (slot * 16) 16 (now (queues .entry))))) × (r < 256) ⌝ }
 {
     if share_of_slot(slot) != share {
         return 0;
     }
     let q = read_queue(queues, slot);
-    if q.live != 1 {
-        return 0;
-    }
     wide(q.limit)
 }
 
 // The sum of the limits of the share's live queues.
 pub fn share_limits(queues: &[u8], share: usize) -> usize
-    requires { ⌜ length (now queues) ≡ 256 ⌝ }
+    requires { ⌜ (length (now queues) ≡ 256) × (every (λ slot q. soundQueue q) (decodeQueues (now queues)) ≡ true) ⌝ }
     ensures { λ r. ⌜ (r ≡ limits (onlyQueues (now (queues .entry))) share) × (r ≤ 4080) ⌝ }
 {
     let mut sum = 0;
@@ -97,7 +100,7 @@ pub fn share_limits(queues: &[u8], share: usize) -> usize
 
 // In each share the limits are at most what it has.
 pub fn limits_sound(queues: &[u8]) -> bool
-    requires { ⌜ length (now queues) ≡ 256 ⌝ }
+    requires { ⌜ (length (now queues) ≡ 256) × (every (λ slot q. soundQueue q) (decodeQueues (now queues)) ≡ true) ⌝ }
     ensures { λ r. ⌜ r ≡ soundLimits (onlyQueues (now (queues .entry))) ⌝ }
 {
     let mut good = true;

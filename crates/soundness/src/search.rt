@@ -3,11 +3,10 @@ ghost use mathlib.Core.Path.{_≡_};
 ghost use lib.ListN.{length};
 ghost use Rattle.records.specs.Bytes.{decode};
 ghost use Rattle.specification.specs.Sound.{sound};
-use crate::buffers::buffers_sound;
+use crate::buffers::pool_sound;
 use crate::priorities::priorities_sound;
 use crate::queues::limits_sound;
 use crate::queues::queues_sound;
-use crate::ranked::every_ranked;
 use crate::tasks::tasks_sound;
 
 // The tables are sound.
@@ -21,17 +20,11 @@ pub fn is_sound(queues: &[u8], pool: &[u8], tasks: &[u8]) -> bool
     if !limits_sound(queues) {
         return false;
     }
-    if !buffers_sound(queues, pool) {
+    if !pool_sound(queues, pool) {
         return false;
     }
-    if !every_ranked(queues, pool, 128, 0, 64, true) {
+    if !tasks_sound(queues, tasks) {
         return false;
     }
-    if !every_ranked(queues, tasks, 136, 1, 32, false) {
-        return false;
-    }
-    if !priorities_sound(queues, tasks) {
-        return false;
-    }
-    tasks_sound(queues, tasks)
+    priorities_sound(queues, tasks)
 }

@@ -1,39 +1,39 @@
 // The rules of tasks.
 ghost use mathlib.Core.Path.{_≡_};
-ghost use mathlib.Core.Bool.{_&&_, _||_};
+ghost use mathlib.Core.Bool.{true, false, _&&_, _||_};
 ghost use Prim.Native.Nat.{_<_};
 ghost use lib.Dec.{eqb};
-ghost use lib.ListN.{length};
+ghost use lib.ListN.{length, replicate};
 ghost use Rattle.ranks.specs.Lists.{all, every};
 ghost use Rattle.ranks.specs.Table.{byte};
 ghost use Rattle.records.specs.Records.{isLive, isOpen};
-ghost use Rattle.records.specs.Bytes.{decodeTask, decodeTasks};
+ghost use Rattle.records.specs.Bytes.{decodeTask, decodeQueues, decodeTasks};
 ghost use Rattle.specification.specs.Sound.{taskRules, readyTaskRules, soundTask};
-ghost use Rattle.soundness.specs.Parts.{onlyQueues};
-use crate::bytes::zeros;
-use records::bytes::read_u32;
+ghost use Rattle.soundness.specs.Parts.{onlyQueues, taskPositions, queueRanked, Marked, Tested};
+use crate::ranked::every_ranked;
+use crate::ranked::mark;
+use ranks::read_position;
 use records::bytes::wide;
 use records::queue::QueueRecord;
 use records::queue::read_queue;
 use records::shares::share_of_slot;
 use records::shares::share_of_task;
+use records::zeros::eight_zeros;
+use records::zeros::four_zeros;
+use records::zeros::two_zeros;
 
-// What holds of each task, ready or waiting.
-fn any_task(r: &[u8]) -> bool
-    requires { ⌜ length (now r) ≡ 136 ⌝ }
-    ensures { λ x. ⌜ x ≡ all (taskRules (decodeTask (now (r .entry)))) ⌝ }
-{
-    (1 <= r[3]) & zeros(r, 6, 8) & zeros(r, 12, 16)
-}
-
+// A task that does not wait. The bytes that have to be zero stand side by side, so that they are tested together.
 fn ready_task(r: &[u8]) -> bool
     requires { ⌜ length (now r) ≡ 136 ⌝ }
-    ensures { λ x. ⌜ x ≡ all (readyTaskRules (decodeTask (now (r .entry)))) ⌝ }
+    ensures { λ x. ⌜ x ≡ (all (taskRules (decodeTask (now (r .entry)))) && all (readyTaskRules (decodeTask (now (r .entry))))) ⌝ }
 {
     (r[0] == 0)
         & (r[1] == 0)
         & (r[2] == 0)
-        & (read_u32(r, 8) == 0)
+        & (r[6] == 0)
+        & (r[7] == 0)
+        & eight_zeros(r, 8)
+        & (1 <= r[3])
         & ((r[4] == 0) | (r[4] == 7) | (r[4] == 8))
         & (r[5] <= 120)
 }
@@ -41,9 +41,10 @@ fn ready_task(r: &[u8]) -> bool
 // The task may wait in the queue, which is of its own share or not.
 fn waiting_task(q: QueueRecord, own: bool, r: &[u8]) -> bool
     requires { ⌜ length (now r) ≡ 136 ⌝ }
-    ensures { λ x. ⌜ x ≡ (isLive q && (own || isOpen q) && eqb (byte 4 (now (r .entry))) 14 && eqb (byte 5 (now (r .entry))) 0) ⌝ }
+    ensures { λ x. ⌜ x ≡ (all (taskRules (decodeTask (now (r .entry)))) && (isLive q && (own || isOpen q) && eqb (byte 4 (now (r .entry))) 14 && eqb (byte 5 (now (r .entry))) 0)) ⌝ }
 {
-    (q.live == 1) & (own | (q.attributes / 2 % 2 == 1)) & (r[4] == 14) & (r[5] == 0)
+    ((1 <= r[3]) & two_zeros(r, 6) & four_zeros(r, 12))
+        & ((q.live == 1) & (own | (q.attributes / 2 % 2 == 1)) & (r[4] == 14) & (r[5] == 0))
 }
 
 // The record of task t is as its rules say.
@@ -51,11 +52,11 @@ fn task_sound(queues: &[u8], r: &[u8], t: usize) -> bool
     requires { ⌜ (length (now queues) ≡ 256) × ((length (now r) ≡ 136) × (t < 32)) ⌝ }
     ensures { λ x. ⌜ x ≡ soundTask (onlyQueues (now (queues .entry))) t (decodeTask (now (r .entry))) ⌝ }
 {
-    if !any_task(r) {
-        return false;
+    if ready_task(r) {
+        return true;
     }
     if r[0] != 1 {
-        return ready_task(r);
+        return false;
     }
     let owner = wide(r[1]);
     if owner == 0 {
@@ -72,10 +73,12 @@ fn task_sound(queues: &[u8], r: &[u8], t: usize) -> bool
     )
 }
 
-// Each task is as its rules say.
-pub fn tasks_sound(queues: &[u8], tasks: &[u8]) -> bool
-    requires { ⌜ (length (now queues) ≡ 256) × (length (now tasks) ≡ 4352) ⌝ }
-    ensures { λ x. ⌜ x ≡ every (soundTask (onlyQueues (now (queues .entry)))) (decodeTasks (now (tasks .entry))) ⌝ }
+// Each task is as its rules say, and those that wait have ranks of their own below the count of their queue, which they mark.
+fn mark_tasks(queues: &[u8], tasks: &[u8], seen: &mut [u8]) -> bool
+    requires { ⌜ (length (now queues) ≡ 256) × ((length (now tasks) ≡ 4352) × (now seen ≡ replicate 512 0)) ⌝ }
+    ensures { λ x. ⌜ Tested (every (soundTask (onlyQueues (now (queues .entry)))) (decodeTasks (now (tasks .entry))))
+        (every (queueRanked false (taskPositions (now (tasks .entry)))) (decodeQueues (now (queues .entry))))
+        (Marked false (decodeQueues (now (queues .entry))) (taskPositions (now (tasks .entry))) 32 (now (seen .exit))) x ⌝ }
 {
     let mut good = true;
     'search: for t in 0..32 {
@@ -84,6 +87,23 @@ pub fn tasks_sound(queues: &[u8], tasks: &[u8]) -> bool
             good = false;
             break 'search;
         }
+        if !mark(queues, seen, read_position(tasks, from + 1), false) {
+            good = false;
+            break 'search;
+        }
     }
     good
+}
+
+// Each task is as its rules say, and the waiters of each live queue carry the ranks below their count, each exactly once.
+pub fn tasks_sound(queues: &[u8], tasks: &[u8]) -> bool
+    requires { ⌜ (length (now queues) ≡ 256) × (length (now tasks) ≡ 4352) ⌝ }
+    ensures { λ x. ⌜ x ≡ (every (soundTask (onlyQueues (now (queues .entry)))) (decodeTasks (now (tasks .entry)))
+        && every (queueRanked false (taskPositions (now (tasks .entry)))) (decodeQueues (now (queues .entry)))) ⌝ }
+{
+    let mut seen = [0u8; 512];
+    if !mark_tasks(queues, tasks, &mut seen) {
+        return false;
+    }
+    every_ranked(queues, &seen, false)
 }

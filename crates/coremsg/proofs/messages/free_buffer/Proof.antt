@@ -1,54 +1,55 @@
 -- `coremsg::messages::free_buffer` meets its contract. Assumes nothing.
-use Prim.Native.Nat.{_-_}
+use Prim.Native.Nat.{ℕ, _+_, _*_, _-_, _<_, _≤_}
 use native.Mathlib.Omega.{arith}
-use mathlib.Core.Path.{sym, _∙_}
-use borrow.Author.Needs.{needs}
+use mathlib.Core.Path.{_≡_, sym, ap, subst, _∙_}
+use mathlib.Core.Bool.{Bool, false, _&&_, and-false}
+use lib.Dec.{eqb, leb, ltb}
+use lib.ListN.{length}
+use borrow.Author.Tests.{lt-leb}
+use Rattle.ranks.specs.Table.{slice}
+use Rattle.records.specs.Split.{shareOfBuffer, firstBuffer, shareLimit}
 use Rattle.records.specs.Records.{freeBuffer}
 use Rattle.records.specs.Bytes.{decodeBuffer}
+use Rattle.records.proofs.Tabled.{buffers-end, share-buffers}
 use Rattle.specification.specs.Submit.{isFreeOf}
-use Rattle.coremsg.proofs.Searches.{Searched, search-begins, search-finds, search-goes-on, search-ends}
+use Rattle.coremsg.proofs.Searches.{swapped, Searched, search-begins-at, search-finds, search-goes-on, search-ends}
+use borrow.Author.Needs.{needs}
 use Rattle.coremsg.proofs.messages.free_buffer.Statement.{statement}
 use Rattle.coremsg.proofs.messages.free_buffer.Tie as tie
 
 abbrev Inv-loop : tie.InvT-loop
-Inv-loop pool share b₀ b = Searched decodeBuffer freeBuffer 64 128 (isFreeOf share) pool b
+Inv-loop pool share b₀ b =
+    Searched decodeBuffer freeBuffer 64 128 (isFreeOf share) pool b
 
 abbrev μ-loop : tie.MeasureT-loop
-μ-loop pool share b₀ b = 64 - b
+μ-loop pool share b₀ b =
+    64 - b
 
 loop-holds : tie.Need-loop-holds Inv-loop μ-loop
-loop-holds c = search-begins decodeBuffer freeBuffer 64 128 (isFreeOf (c .before .args .share)) (c .before .args .pool .now)
+loop-holds c =
+    let s = c .before .before in
+    let a = s .args in
+    subst (Searched decodeBuffer freeBuffer 64 128 (isFreeOf (a .share)) (a .pool .now)) (sym (c .first-buffer .ensures))
+    (search-begins-at decodeBuffer freeBuffer 64 128 (isFreeOf (a .share)) (a .pool .now) (firstBuffer (a .share)) (omega (arith, buffers-end (a .share) (s .pre .1)))
+    (λ j lt.
+    ap (λ (b : Bool). eqb (decodeBuffer (slice (j * 128) 128 (a .pool .now)) .position .queue) 0 && b)
+    (swapped (shareOfBuffer j) (a .share) ∙ sym (share-buffers (a .share) j (s .pre .1) (omega (arith, buffers-end (a .share) (s .pre .1)))) ∙ ap (λ (b : Bool). b && ltb j (firstBuffer (a .share) + shareLimit (a .share))) (lt-leb (firstBuffer (a .share)) j lt))
+    ∙ and-false (eqb (decodeBuffer (slice (j * 128) 128 (a .pool .now)) .position .queue) 0)))
 
 returns : tie.Need-returns Inv-loop μ-loop
 returns c =
-    let v = c .before .before .before .loop in
-    let a = c .before .before .before .before .before .args in
-    search-finds decodeBuffer freeBuffer 64 128 (isFreeOf (a .share)) (a .pool .now) (v .b) (v .inv) (c .before .before .loop-test .taken)
-    (sym (c .before .is-free .ensures) ∙ c .if1 .taken)
+    let a = c .before .before .before .before .before .before .args in
+    search-finds decodeBuffer freeBuffer 64 128 (isFreeOf (a .share)) (a .pool .now) (c .before .before .before .loop .b) (c .before .before .before .loop .inv) (c .before .before .loop-test .taken) (sym (c .before .is-free .ensures) ∙ c .if1 .taken)
 
 loop-again : tie.Need-loop-again Inv-loop μ-loop
 loop-again c =
-    let v = c .before .before .before .loop in
-    let a = c .before .before .before .before .before .args in
-    search-goes-on decodeBuffer freeBuffer 64 128 (isFreeOf (a .share)) (a .pool .now) (v .b) (v .inv) (c .before .before .loop-test .taken)
-    (sym (c .before .is-free .ensures) ∙ c .if1 .left)
+    let a = c .before .before .before .before .before .before .args in
+    search-goes-on decodeBuffer freeBuffer 64 128 (isFreeOf (a .share)) (a .pool .now) (c .before .before .before .loop .b) (c .before .before .before .loop .inv) (c .before .before .loop-test .taken) (sym (c .before .is-free .ensures) ∙ c .if1 .left)
 
 returns-2 : tie.Need-returns-2 Inv-loop μ-loop
 returns-2 c =
-    let v = c .before .loop in
-    let a = c .before .before .before .args in
-    search-ends decodeBuffer freeBuffer 64 128 (isFreeOf (a .share)) (a .pool .now) (v .b) (v .inv) (omega arith)
+    let a = c .before .before .before .before .args in
+    search-ends decodeBuffer freeBuffer 64 128 (isFreeOf (a .share)) (a .pool .now) (c .before .loop .b) (c .before .loop .inv) (omega arith)
 
 pub free-buffer-spec : {M : Type 1} → statement M
-free-buffer-spec =
-    tie.close
-    (tie.spec
-    Inv-loop
-    μ-loop
-    loop-holds
-    (search needs)
-    returns
-    (search needs)
-    (search needs)
-    loop-again
-    returns-2)
+free-buffer-spec = tie.close (tie.spec Inv-loop μ-loop (search needs) loop-holds (search needs) returns (search needs) (search needs) loop-again returns-2)

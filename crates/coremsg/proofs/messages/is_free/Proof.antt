@@ -1,23 +1,18 @@
 -- `coremsg::messages::is_free` meets its contract. Assumes nothing.
 use Prim.Native.Nat.{ℕ, _*_}
-use mathlib.Core.Path.{_≡_, sym, ap, ap₂, _∙_}
-use mathlib.Core.Logic.{⊎-elim}
+use mathlib.Core.Path.{sym, ap, ap₂, _∙_}
 use mathlib.Core.Bool.{Bool, _&&_}
 use native.Mathlib.Nat.{add-zero}
 use native.Mathlib.Omega.{arith}
 use lib.Dec.{eqb}
-use borrow.Author.Tests.{ne-eqb}
 use Rattle.ranks.specs.Table.{byte}
-use Rattle.ranks.proofs.Tests.{same?}
 use Rattle.ranks.proofs.Table.{byte-slice}
 use Rattle.records.specs.Split.{shareOfBuffer}
 use Rattle.records.specs.Bytes.{decodeBuffer}
 use borrow.Author.Needs.{needs}
+use Rattle.coremsg.proofs.Searches.{swapped}
 use Rattle.coremsg.proofs.messages.is_free.Statement.{statement}
 use Rattle.coremsg.proofs.messages.is_free.Tie as tie
-
-swapped : (m n : ℕ) → eqb m n ≡ eqb n m
-swapped m n = ⊎-elim (λ (e : m ≡ n). ap₂ eqb e (sym e)) (λ ne. ne-eqb m n ne ∙ sym (ne-eqb n m (λ e. ne (sym e)))) (same? m n)
 
 returns : tie.Need-returns
 unfolding decodeBuffer

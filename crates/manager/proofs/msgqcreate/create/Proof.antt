@@ -6,7 +6,7 @@ use Rattle.records.specs.Bytes.{Tables}
 use Rattle.manager.specs.Outcomes.{tables}
 use Rattle.records.proofs.Tabled.{task-share-below}
 use Rattle.manager.proofs.Outcomes.{caller-ready, table-lengths, as-encoded}
-use Rattle.manager.proofs.Creates.{refused-create, in-range, not-spent, created}
+use Rattle.manager.proofs.Creates.{refused-create, in-range, not-spent, created, queues-sound}
 use borrow.Author.Needs.{needs}
 use Rattle.manager.proofs.msgqcreate.create.Statement.{statement}
 use Rattle.manager.proofs.msgqcreate.create.Tie as tie
@@ -22,7 +22,7 @@ refusal-requires c κs =
     let s = c .before .before .before .before .before .before .before in
     let own = c .before .before .before .share-of-task .ensures in (
       table-lengths _ _ _ _ (s .pre) .0,
-      (subst (λ (p : ℕ). p < 4) (sym own) (task-share-below (s .args .caller) (caller-ready _ _ _ _ (s .pre) .below)), c .before .free-slot .ensures),
+      (subst (λ (p : ℕ). p < 4) (sym own) (task-share-below (s .args .caller) (caller-ready _ _ _ _ (s .pre) .below)), (c .before .free-slot .ensures, queues-sound (tables (s .args .queues .now) (s .args .pool .now) (s .args .tasks .now)) (s .pre .isSound))),
     )
 
 returns : tie.Need-returns

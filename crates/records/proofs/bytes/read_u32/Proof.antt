@@ -5,18 +5,10 @@ use Rattle.records.proofs.Writing
 use Rattle.records.proofs.bytes.read_u32.Statement.{statement}
 use Rattle.records.proofs.bytes.read_u32.Tie as tie
 
--- src/bytes.rt:33:15
--- src/bytes.rt:33:15
--- src/bytes.rt:34:28
--- src/bytes.rt:34:16
--- src/bytes.rt:34:16
--- src/bytes.rt:35:11
--- src/bytes.rt:35:5
--- src/bytes.rt:29:1
 returns : tie.Need-returns
 returns c =
     let s = c .before .before .before in
-    omega (arith, Writing.word-number (s .args .t .now) (s .args .at) (s .pre), c .before .read-u16 .ensures, c .read-u162 .ensures)
+    omega (arith, Writing.number-add (s .args .at) 2 2 (s .args .t .now) (omega arith), c .before .read-u16 .ensures, c .read-u162 .ensures)
 
 pub read-u32-spec : {M : Type 1} → statement M
 read-u32-spec =

@@ -1,15 +1,17 @@
 -- `records::shares::first_buffer` meets its contract. Assumes nothing.
-use mathlib.Core.Path.{refl}
+use Prim.Native.Nat.{ℕ, _*_, _/_}
+use mathlib.Core.Path.{refl, ap}
+use lib.Dec.{eqb}
 use borrow.Author.Needs.{needs}
 use Rattle.ranks.specs.Lists
 use Rattle.records.specs.Split
-use Rattle.records.proofs.Tabled.{tabled}
+use Rattle.records.proofs.Tabled.{agree}
 use Rattle.records.proofs.shares.first_buffer.Statement.{statement}
 use Rattle.records.proofs.shares.first_buffer.Tie as tie
 
 returns : tie.Need-returns
 unfolding Lists.range Split.split Split.firstBuffer
-returns c = tabled Split.firstBuffer 4 _ refl (c .args .share) 0 (c .pre)
+returns c = agree (λ i. i * 16) Split.firstBuffer 4 refl (c .args .share) (c .pre)
 
 pub first-buffer-spec : {M : Type 1} → statement M
-first-buffer-spec = tie.close (tie.spec (search needs) (search needs) returns)
+first-buffer-spec = tie.close (tie.spec (search needs) returns)

@@ -1,20 +1,17 @@
 -- `records::shares::owns_buffer` meets its contract. Assumes nothing.
-use native.Mathlib.Omega.{arith}
+use Prim.Native.Nat.{ℕ, _*_, _/_}
+use mathlib.Core.Path.{refl, ap}
+use lib.Dec.{eqb}
 use borrow.Author.Needs.{needs}
-use Rattle.records.proofs.Tabled.{buffers-end, share-buffers}
+use Rattle.ranks.specs.Lists
+use Rattle.records.specs.Split
+use Rattle.records.proofs.Tabled.{agree}
 use Rattle.records.proofs.shares.owns_buffer.Statement.{statement}
 use Rattle.records.proofs.shares.owns_buffer.Tie as tie
 
-add-result : tie.Need-add-result
-add-result c =
-    let s = c .before .before in
-    omega (arith, c .before .first-buffer .ensures, c .share-limit .ensures, buffers-end (s .args .share) (s .pre .0))
-
 returns : tie.Need-returns
-returns c =
-    let s = c .before .before in
-    rw (c .before .first-buffer .ensures, c .share-limit .ensures) (share-buffers (s .args .share) (s .args .b) (s .pre .0) (s .pre .1))
+unfolding Lists.range Lists.first Split.split Split.shareOfBuffer
+returns c = ap (eqb (c .args .share)) (agree (λ i. i / 16) Split.shareOfBuffer 64 refl (c .args .b) (c .pre))
 
 pub owns-buffer-spec : {M : Type 1} → statement M
-owns-buffer-spec =
-    tie.close (tie.spec (search needs) (search needs) add-result returns)
+owns-buffer-spec = tie.close (tie.spec returns)

@@ -1,15 +1,17 @@
 -- `records::shares::share_limit` meets its contract. Assumes nothing.
-use mathlib.Core.Path.{refl}
+use Prim.Native.Nat.{ℕ, _*_, _/_}
+use mathlib.Core.Path.{refl, ap}
+use lib.Dec.{eqb}
 use borrow.Author.Needs.{needs}
 use Rattle.ranks.specs.Lists
 use Rattle.records.specs.Split
-use Rattle.records.proofs.Tabled.{tabled}
+use Rattle.records.proofs.Tabled.{agree}
 use Rattle.records.proofs.shares.share_limit.Statement.{statement}
 use Rattle.records.proofs.shares.share_limit.Tie as tie
 
 returns : tie.Need-returns
 unfolding Lists.range Split.split Split.shareLimit
-returns c = tabled Split.shareLimit 4 _ refl (c .args .share) 0 (c .pre)
+returns c = agree (λ i. 16) Split.shareLimit 4 refl (c .args .share) (c .pre)
 
 pub share-limit-spec : {M : Type 1} → statement M
-share-limit-spec = tie.close (tie.spec (search needs) (search needs) returns)
+share-limit-spec = tie.close (tie.spec returns)

@@ -8,8 +8,8 @@ use Rattle.runs.proofs.answer.answer_call.Tie as tie
 answer-directive-requires : tie.Need-answer-directive-requires
 answer-directive-requires c κs = c .before .before .before .before .before .before .before .before .before .before .before .pre
 
-answer-tick-requires : tie.Need-answer-tick-requires
-answer-tick-requires c κs = c .before .before .before .before .before .before .before .before .before .pre
+tick-after-requires : tie.Need-tick-after-requires
+tick-after-requires c κs = c .before .before .before .before .before .before .before .before .before .pre
 
 returns : tie.Need-returns
 unfolding callOf
@@ -17,7 +17,7 @@ returns c = c .before .before .before .before .before .before .answer-directive 
 
 returns-2 : tie.Need-returns-2
 unfolding callOf
-returns-2 c = c .before .before .before .before .answer-tick .ensures ∙ simp (c .before .before .before .before .before .before .before .before .enum-told .given .1)
+returns-2 c = c .before .before .before .before .tick-after .ensures ∙ simp (c .before .before .before .before .before .before .before .before .enum-told .given .1)
 
 pub answer-call-spec : {M : Type 1} → statement M
-answer-call-spec = tie.close (tie.spec (search needs) (search needs) answer-directive-requires (search needs) answer-tick-requires (search needs) (search needs) (search needs) returns (search needs) (search needs) (search needs) returns-2)
+answer-call-spec = tie.close (tie.spec (search needs) (search needs) answer-directive-requires (search needs) tick-after-requires (search needs) (search needs) (search needs) returns (search needs) (search needs) (search needs) returns-2)

@@ -7,23 +7,23 @@ use borrow.Author.Needs.{needs}
 use Rattle.runs.proofs.answer.answer_directive.Statement.{statement}
 use Rattle.runs.proofs.answer.answer_directive.Tie as tie
 
-refusal-requires : tie.Need-refusal-requires
-refusal-requires c κs = c .before .before .before .before .before .before .before .pre
+caller-refusal-requires : tie.Need-caller-refusal-requires
+caller-refusal-requires c κs = c .before .before .before .before .before .before .before .pre
 
 returns : tie.Need-returns
 returns c =
     let a = c .before .before .before .before .before .before .before .before .before .args in
-    refused-call (tables (a .queues .now) (a .pool .now) (a .tasks .now)) (a .caller) (directiveOf (a .directive) (a .field .now)) _ (c .before .refusal .ensures) (c .if1 .taken)
+    refused-call (tables (a .queues .now) (a .pool .now) (a .tasks .now)) (a .caller) (directiveOf (a .directive) (a .field .now)) _ (c .before .caller-refusal .ensures) (c .if1 .taken)
 
 perform-requires : tie.Need-perform-requires
 perform-requires c κs =
     let a = c .before .before .before .before .before .before .before .before .before .before .before .before .args in
-    callable (tables (a .queues .now) (a .pool .now) (a .tasks .now)) (a .caller) (sym (c .before .before .before .if1 .left) ∙ c .before .before .before .before .refusal .ensures)
+    callable (tables (a .queues .now) (a .pool .now) (a .tasks .now)) (a .caller) (sym (c .before .before .before .if1 .left) ∙ c .before .before .before .before .caller-refusal .ensures)
 
 returns-2 : tie.Need-returns-2
 returns-2 c =
     let a = c .before .before .before .before .before .before .before .before .before .before .before .before .before .before .before .before .before .before .before .args in
-    c .before .before .before .before .before .before .perform .ensures ∙ accepted-call (tables (a .queues .now) (a .pool .now) (a .tasks .now)) (a .caller) (sym (c .before .before .before .before .before .before .before .before .before .before .if1 .left) ∙ c .before .before .before .before .before .before .before .before .before .before .before .refusal .ensures) (directiveOf (a .directive) (a .field .now))
+    c .before .before .before .before .before .before .perform .ensures ∙ accepted-call (tables (a .queues .now) (a .pool .now) (a .tasks .now)) (a .caller) (sym (c .before .before .before .before .before .before .before .before .before .before .if1 .left) ∙ c .before .before .before .before .before .before .before .before .before .before .before .caller-refusal .ensures) (directiveOf (a .directive) (a .field .now))
 
 pub answer-directive-spec : {M : Type 1} → statement M
-answer-directive-spec = tie.close (tie.spec refusal-requires (search needs) (search needs) (search needs) returns perform-requires (search needs) (search needs) (search needs) returns-2)
+answer-directive-spec = tie.close (tie.spec caller-refusal-requires (search needs) (search needs) (search needs) returns perform-requires (search needs) (search needs) (search needs) returns-2)

@@ -2,32 +2,31 @@
 use Prim.Native.Nat.{_*_, _-_, _<_}
 use native.Mathlib.Omega.{arith}
 use mathlib.Core.Path.{_≡_, refl, sym, ap, _∙_, subst}
-use mathlib.Core.Bool.{true}
 use lib.ListN.{length}
 use Rattle.ranks.specs.Table.{slice}
 use Rattle.calllog.specs.declared.reader.Step.{Step}
-use Rattle.manager.specs.Outcomes.{tables}
+use Rattle.specification.specs.Answer.{firstStatus}
+use Rattle.manager.specs.Outcomes.{tables, tableRefusals}
 use Rattle.manager.proofs.Outcomes.{Slice}
-use Rattle.runs.specs.Known.{KnownSound}
 use Rattle.runs.specs.Replay.{countOf, Replayed, replayRecord}
 use Rattle.runs.proofs.Replays.{ReplayedTo, none-replayed, one-more-replayed, all-replayed, record-replayed, starts, next-after, next-within, part-size}
-use Rattle.runs.proofs.KnownSound.{sliced, stays-known}
+use Rattle.runs.proofs.TableStatus.{sliced, status-stays}
 use borrow.Author.Needs.{needs}
 use Rattle.runs.proofs.replay.replay_all.Statement.{statement}
 use Rattle.runs.proofs.replay.replay_all.Tie as tie
 
 abbrev Inv-loop : tie.InvT-loop
-Inv-loop queues₀ pool₀ tasks₀ log answers₀ known n i₀ queues pool tasks answers i =
-    (known ≡ true → KnownSound (tables queues pool tasks)) × ((Slice queues × (Slice pool × Slice tasks)) × ((length queues ≡ length queues₀) × ((length pool ≡ length pool₀) × ((length tasks ≡ length tasks₀) × ReplayedTo (tables queues₀ pool₀ tasks₀) log answers₀ (tables queues pool tasks) answers i))))
+Inv-loop queues₀ pool₀ tasks₀ log answers₀ status n i₀ queues pool tasks answers i =
+    (status ≡ firstStatus (tableRefusals (tables queues pool tasks))) × ((Slice queues × (Slice pool × Slice tasks)) × ((length queues ≡ length queues₀) × ((length pool ≡ length pool₀) × ((length tasks ≡ length tasks₀) × ReplayedTo (tables queues₀ pool₀ tasks₀) log answers₀ (tables queues pool tasks) answers i))))
 
 abbrev μ-loop : tie.MeasureT-loop
-μ-loop queues₀ pool₀ tasks₀ log answers₀ known n i₀ queues pool tasks answers i =
+μ-loop queues₀ pool₀ tasks₀ log answers₀ status n i₀ queues pool tasks answers i =
     n - i
 
 loop-holds : tie.Need-loop-holds Inv-loop μ-loop
 loop-holds c =
     let a = c .before .before .before .before .before .before .before .before .before .before .args in
-    (c .before .known-sound .ensures, (((λ j. c .before .before .before .before .before .before .before .before .before .slice-known .given j .fits), ((λ j. c .before .before .before .before .before .before .before .before .slice-known2 .given j .fits), (λ j. c .before .before .before .before .before .before .before .slice-known3 .given j .fits))), (refl, (refl, (refl, none-replayed (tables (a .queues .now) (a .pool .now) (a .tasks .now)) (a .log .now) (a .answers .now))))))
+    (c .before .table-refusal .ensures, (((λ j. c .before .before .before .before .before .before .before .before .before .slice-known .given j .fits), ((λ j. c .before .before .before .before .before .before .before .before .slice-known2 .given j .fits), (λ j. c .before .before .before .before .before .before .before .slice-known3 .given j .fits))), (refl, (refl, (refl, none-replayed (tables (a .queues .now) (a .pool .now) (a .tasks .now)) (a .log .now) (a .answers .now))))))
 
 mul-at : tie.Need-mul-at Inv-loop μ-loop
 mul-at c =
@@ -80,7 +79,7 @@ loop-again c =
     let h : v .i < countOf (length (a .log .now)) = omega (arith, c .before .before .before .before .before .before .before .before .before .before .before .before .before .before .before .before .before .before .before .record-count .ensures, c .before .before .before .before .before .before .before .before .before .before .before .before .before .before .before .before .before .loop-test .taken) in
     let is : r ≡ replayRecord t (slice (v .i * 136) 136 (a .log .now)) =
     record-replayed (a .log .now) (v .i) h t _ _ r (ap (λ (x : Step). x .result) (c .before .before .before .before .before .before .before .before .before .before .before .before .before .before .before .before .read-at .ensures)) (ap (λ (x : Step). x .next) (c .before .before .before .before .before .before .before .before .before .before .before .before .before .before .before .before .read-at .ensures)) (o .ensures) in (
-      (λ k. subst (λ (x : Replayed). KnownSound (x .after)) (sym is) (stays-known t (slice (v .i * 136) 136 (a .log .now)) (v .inv .0 k) (v .inv .1 .0 .0) (v .inv .1 .0 .1 .0) (v .inv .1 .0 .1 .1) (sliced (v .i * 136) 136 (a .log .now) (λ j. c .before .before .before .before .before .before .before .before .before .before .before .before .before .before .before .before .before .before .before .before .before .before .before .before .before .shared-slice-known .given j .fits)))),
+      (subst (λ (x : Replayed). c .before .before .before .before .before .before .before .before .before .before .before .before .before .before .before .before .before .before .before .before .table-refusal .result ≡ firstStatus (tableRefusals (x .after))) (sym is) (status-stays t (v .inv .0) (slice (v .i * 136) 136 (a .log .now)) (v .inv .1 .0 .0) (v .inv .1 .0 .1 .0) (v .inv .1 .0 .1 .1) (sliced (v .i * 136) 136 (a .log .now) (λ j. c .before .before .before .before .before .before .before .before .before .before .before .before .before .before .before .before .before .before .before .before .before .before .before .before .before .shared-slice-known .given j .fits)))),
       (
         ((λ j. c .before .before .before .before .before .before .before .before .before .slice-known5 .given j .fits), ((λ j. c .before .before .before .before .before .before .before .slice-known6 .given j .fits), (λ j. c .before .before .before .before .before .slice-known7 .given j .fits))),
         (

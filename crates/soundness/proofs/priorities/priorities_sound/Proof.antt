@@ -3,22 +3,23 @@ use mathlib.Core.Path.{_≡_, subst}
 use mathlib.Core.Bool.{true, false}
 use Prim.Native.Nat.{_-_}
 use native.Mathlib.Omega.{arith}
-use borrow.Author.Needs.{needs}
 use Rattle.ranks.proofs.Searches.{AllBelow, all-below, one-more-passes, all-pass, one-fails}
+use Rattle.ranks.proofs.Lists.{every-at}
 use Rattle.records.proofs.Writing.{length-decoded, at-table}
 use Rattle.records.specs.Records.{freeQueue, Queue}
 use Rattle.records.specs.Bytes.{decodeQueue, decodeQueues}
-use Rattle.ranks.specs.Table.{records}
-use Rattle.ranks.proofs.Lists.{every-at}
-use Rattle.soundness.specs.Parts.{onlyTasks, positions, queueRanked, queueInOrder}
+use Rattle.soundness.specs.Parts.{onlyTasks, taskPositions, queueRanked, queueInOrder}
+use borrow.Author.Needs.{needs}
 use Rattle.soundness.proofs.priorities.priorities_sound.Statement.{statement}
 use Rattle.soundness.proofs.priorities.priorities_sound.Tie as tie
 
 abbrev Inv-search : tie.InvT-search
-Inv-search queues tasks good₀ slot₀ good slot = AllBelow (queueInOrder (onlyTasks tasks)) (decodeQueues queues) 16 good slot
+Inv-search queues tasks good₀ slot₀ good slot =
+    AllBelow (queueInOrder (onlyTasks tasks)) (decodeQueues queues) 16 good slot
 
 abbrev μ-search : tie.MeasureT-search
-μ-search queues tasks good₀ slot₀ good slot = 16 - slot
+μ-search queues tasks good₀ slot₀ good slot =
+    16 - slot
 
 search-holds : tie.Need-search-holds Inv-search μ-search
 search-holds c = all-below
@@ -27,42 +28,26 @@ queue-in-order-requires : tie.Need-queue-in-order-requires Inv-search μ-search
 queue-in-order-requires c κs =
     let s = c .before .before .before .before in
     let i = c .before .search .slot in
-    let t = s .args .queues .now in
-    let ps = positions 1 (records 32 136 (s .args .tasks .now)) in (
+    let t = s .args .queues .now in (
       s .pre .0,
       (
         s .pre .1 .0,
         (
           omega arith,
-          subst (λ (q : Queue). queueRanked false ps i q ≡ true) (at-table decodeQueue 16 16 t i (omega arith) (freeQueue 0))
-              (every-at (queueRanked false ps) (decodeQueues t) (freeQueue 0) (s .pre .1 .1) i (omega (arith, length-decoded decodeQueue 16 16 t))),
+          subst (λ (q : Queue). queueRanked false (taskPositions (s .args .tasks .now)) i q ≡ true) (at-table decodeQueue 16 16 t i (omega arith) (freeQueue 0))
+              (every-at (queueRanked false (taskPositions (s .args .tasks .now))) (decodeQueues t) (freeQueue 0) (s .pre .1 .1) i (omega (arith, length-decoded decodeQueue 16 16 t))),
         ),
       ),
     )
 
 search-again : tie.Need-search-again Inv-search μ-search
-search-again c =
-    let v = c .before .before .before .search in
-    one-more-passes (freeQueue 0) (length-decoded _ _ _ _) (v .inv) (omega arith) (at-table decodeQueue 16 16 _ _ (omega arith) _) (c .before .queue-in-order .ensures) (c .if1 .left)
+search-again c = one-more-passes (freeQueue 0) (length-decoded _ _ _ _) (c .before .before .before .search .inv) (omega arith) (at-table decodeQueue 16 16 _ _ (omega arith) _) (c .before .queue-in-order .ensures) (c .if1 .left)
 
 returns : tie.Need-returns Inv-search μ-search
 returns c = all-pass (freeQueue 0) (length-decoded _ _ _ _) (c .before .search .inv) (omega arith)
 
 returns-2 : tie.Need-returns-2 Inv-search μ-search
-returns-2 c =
-    let v = c .before .before .before .search in
-    one-fails (freeQueue 0) (length-decoded _ _ _ _) (v .inv) (omega arith) (at-table decodeQueue 16 16 _ _ (omega arith) _) (c .before .queue-in-order .ensures) (c .if1 .taken)
+returns-2 c = one-fails (freeQueue 0) (length-decoded _ _ _ _) (c .before .before .before .search .inv) (omega arith) (at-table decodeQueue 16 16 _ _ (omega arith) _) (c .before .queue-in-order .ensures) (c .if1 .taken)
 
 pub priorities-sound-spec : {M : Type 1} → statement M
-priorities-sound-spec =
-    tie.close
-    (tie.spec
-    Inv-search
-    μ-search
-    search-holds
-    queue-in-order-requires
-    (search needs)
-    (search needs)
-    search-again
-    returns
-    returns-2)
+priorities-sound-spec = tie.close (tie.spec Inv-search μ-search search-holds queue-in-order-requires (search needs) (search needs) search-again returns returns-2)

@@ -29,6 +29,9 @@ abbrev μ-search : tie.MeasureT-search
 search-holds : tie.Need-search-holds Inv-search μ-search
 search-holds c = all-below
 
+share-limits-requires : tie.Need-share-limits-requires Inv-search μ-search
+share-limits-requires c κs = c .before .before .before .before .pre
+
 search-again : tie.Need-search-again Inv-search μ-search
 search-again c =
     let v = c .before .before .before .before .search in
@@ -54,7 +57,7 @@ limits-sound-spec =
     μ-search
     search-holds
     (search needs)
-    (search needs)
+    share-limits-requires
     (search needs)
     (search needs)
     search-again

@@ -5,7 +5,7 @@ use Rattle.soundness.proofs.queues.live_queue.Statement.{statement}
 use Rattle.soundness.proofs.queues.live_queue.Tie as tie
 
 returns : tie.Need-returns
-returns c = live-is (c .before .before .before .before .before .before .before .before .before .before .before .before .args .q) (c .before .before .before .four-zeros .result) (c .before .before .before .four-zeros .ensures)
+returns c = live-is (c .before .before .before .before .before .before .before .before .before .before .before .before .args .q) (c .before .before .before .reserved-zero .result) (c .before .before .before .reserved-zero .ensures)
 
 pub live-queue-spec : {M : Type 1} → statement M
 live-queue-spec = tie.close (tie.spec (search needs) returns)

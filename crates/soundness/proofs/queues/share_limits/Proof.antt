@@ -1,5 +1,6 @@
 -- `soundness::queues::share_limits` meets its contract. Assumes nothing.
-use mathlib.Core.Path.{_≡_, sym, ap, _∙_}
+use mathlib.Core.Path.{_≡_, sym, ap, subst, _∙_}
+use mathlib.Core.Bool.{true}
 use Prim.Native.Nat.{ℕ, _≤_, _<_, _+_, _*_, _-_}
 use native.Mathlib.Nat.{zero-add}
 use native.Mathlib.Omega.{arith}
@@ -8,11 +9,11 @@ use borrow.Author.Needs.{needs}
 use lib.ListN.{getD, drop, length}
 use Rattle.ranks.specs.Lists.{mapWithIndex, sum as total}
 use Rattle.ranks.specs.Table.{slice}
-use Rattle.ranks.proofs.Lists.{at-mapped, length-mapped}
-use Rattle.records.specs.Records.{freeQueue}
+use Rattle.ranks.proofs.Lists.{at-mapped, length-mapped, every-at}
+use Rattle.records.specs.Records.{Queue, freeQueue}
 use Rattle.records.specs.Bytes.{decodeQueue, decodeQueues}
 use Rattle.records.proofs.Writing.{at-table, length-decoded}
-use Rattle.specification.specs.Sound.{limits, limitIn}
+use Rattle.specification.specs.Sound.{soundQueue, limits, limitIn}
 use Rattle.soundness.proofs.Searched.{sum-more, sum-end}
 use Rattle.soundness.proofs.queues.share_limits.Statement.{statement}
 use Rattle.soundness.proofs.queues.share_limits.Tie as tie
@@ -39,6 +40,19 @@ loop-holds : tie.Need-loop-holds Inv-loop μ-loop
 loop-holds c =
     let a = c .before .args in
     (search needs, (search needs, zero-add (total (parts (a .share) (a .queues .now)))))
+
+limit-in-requires : tie.Need-limit-in-requires Inv-loop μ-loop
+limit-in-requires c κs =
+    let s = c .before .before .before in
+    let t = s .args .queues .now in
+    let i = c .before .loop .slot in (
+      c .loop-test .taken,
+      (
+        s .pre .0,
+        subst (λ (q : Queue). soundQueue q ≡ true) (at-table decodeQueue 16 16 t i (c .loop-test .taken) (freeQueue 0))
+            (every-at (λ slot q. soundQueue q) (decodeQueues t) (freeQueue 0) (s .pre .1) i (omega (arith, length-decoded decodeQueue 16 16 t, c .loop-test .taken))),
+      ),
+    )
 
 loop-again : tie.Need-loop-again Inv-loop μ-loop
 loop-again c =
@@ -68,7 +82,7 @@ share-limits-spec =
     Inv-loop
     μ-loop
     loop-holds
-    (search needs)
+    limit-in-requires
     (search needs)
     (search needs)
     (search needs)

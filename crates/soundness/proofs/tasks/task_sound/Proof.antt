@@ -4,76 +4,55 @@ use native.Mathlib.Omega.{arith}
 use mathlib.Core.Path.{sym, ap₂, _∙_}
 use mathlib.Core.Bool.{Bool, _&&_, _||_}
 use lib.Dec.{eqb}
-use borrow.Author.Tests.{not-true, not-false}
-use borrow.Author.Needs.{needs}
+use Rattle.ranks.specs.Lists.{all}
 use Rattle.ranks.specs.Table.{byte}
 use Rattle.records.specs.Records.{Queue, freeQueue, isLive, isOpen}
 use Rattle.records.specs.Bytes.{decodeQueue, decodeTask}
 use Rattle.records.proofs.Writing.{at-table}
+use Rattle.specification.specs.Sound.{taskRules}
 use Rattle.soundness.specs.Parts.{onlyQueues}
-use Rattle.soundness.proofs.Cases.{task-broken, task-ready, task-nowhere, task-beyond, task-waiting}
+use Rattle.soundness.proofs.Cases.{task-ready, task-is-ready, task-nowhere, task-beyond, task-waiting}
+use borrow.Author.Needs.{needs}
 use Rattle.soundness.proofs.tasks.task_sound.Statement.{statement}
 use Rattle.soundness.proofs.tasks.task_sound.Tie as tie
 
 returns : tie.Need-returns
 returns c =
     let a = c .before .before .before .before .args in
-    task-broken (onlyQueues (a .queues .now)) (a .t) (decodeTask (a .r .now)) (sym (c .before .any-task .ensures) ∙ not-true _ (c .if1 .taken))
+    task-is-ready (onlyQueues (a .queues .now)) (a .t) (decodeTask (a .r .now)) (sym (c .before .ready-task .ensures) ∙ c .if1 .taken)
 
 returns-2 : tie.Need-returns-2
 unfolding decodeTask
 returns-2 c =
-    let a = c .before .before .before .before .before .before .before .args in
-    c .ready-task .ensures
-    ∙ task-ready (onlyQueues (a .queues .now)) (a .t) (decodeTask (a .r .now)) (sym (c .before .before .before .before .any-task .ensures) ∙ not-false _ (c .before .before .before .if1 .left)) (c .before .if2 .taken)
+    let a = c .before .before .before .before .before .before .args in
+    sym (c .before .before .if1 .left) ∙ c .before .before .before .ready-task .ensures ∙ task-ready (onlyQueues (a .queues .now)) (a .t) (decodeTask (a .r .now)) (c .if2 .taken)
 
 returns-3 : tie.Need-returns-3
 unfolding decodeTask
 returns-3 c =
     let a = c .before .before .before .before .before .before .before .before .before .args in
-    task-nowhere (onlyQueues (a .queues .now)) (a .t) (decodeTask (a .r .now)) (sym (c .before .before .before .before .before .before .any-task .ensures) ∙ not-false _ (c .before .before .before .before .before .if1 .left)) (c .before .before .before .if2 .left)
-    (sym (c .before .wide .ensures .0) ∙ c .if3 .taken)
+    task-nowhere (onlyQueues (a .queues .now)) (a .t) (decodeTask (a .r .now)) (c .before .before .before .if2 .left) (sym (c .before .wide .ensures .0) ∙ c .if3 .taken)
 
 returns-4 : tie.Need-returns-4
 unfolding decodeTask
 returns-4 c =
     let a = c .before .before .before .before .before .before .before .before .before .before .args in
     let ne = c .before .if3 .left in
-    let w = c .before .before .wide in
-    task-beyond (onlyQueues (a .queues .now)) (a .t) (decodeTask (a .r .now)) (sym (c .before .before .before .before .before .before .before .any-task .ensures) ∙ not-false _ (c .before .before .before .before .before .before .if1 .left)) (c .before .before .before .before .if2 .left)
-    (w .result - 1) (sym (w .ensures .0) ∙ omega arith) (c .if4 .taken)
+    task-beyond (onlyQueues (a .queues .now)) (a .t) (decodeTask (a .r .now)) (c .before .before .before .before .if2 .left) (c .before .before .wide .result - 1) (sym (c .before .before .wide .ensures .0) ∙ omega arith) (c .if4 .taken)
 
 returns-5 : tie.Need-returns-5
 unfolding decodeTask
 returns-5 c =
     let a = c .before .before .before .before .before .before .before .before .before .before .before .before .before .before .args in
     let ne = c .before .before .before .before .before .if3 .left in
-    let w = c .before .before .before .before .before .before .wide in
     let t = a .queues .now in
     let r = a .r .now in
     let lt = c .before .before .before .before .if4 .left in
     c .waiting-task .ensures
-    ∙ ap₂ (λ (own : Bool) (q : Queue). isLive q && (own || isOpen q) && eqb (byte 4 r) 14 && eqb (byte 5 r) 0)
+    ∙ ap₂ (λ (own : Bool) (q : Queue). all (taskRules (decodeTask r)) && (isLive q && (own || isOpen q) && eqb (byte 4 r) 14 && eqb (byte 5 r) 0))
     (ap₂ eqb (c .before .before .share-of-slot .ensures) (c .before .share-of-task .ensures))
-    (c .before .before .before .read-queue .ensures ∙ sym (at-table decodeQueue 16 16 t (w .result - 1) lt (freeQueue 0)))
-    ∙ task-waiting (onlyQueues t) (a .t) (decodeTask r) (sym (c .before .before .before .before .before .before .before .before .before .before .before .any-task .ensures) ∙ not-false _ (c .before .before .before .before .before .before .before .before .before .before .if1 .left)) (c .before .before .before .before .before .before .before .before .if2 .left) (w .result - 1) (sym (w .ensures .0) ∙ omega arith) lt
+    (c .before .before .before .read-queue .ensures ∙ sym (at-table decodeQueue 16 16 t (c .before .before .before .before .before .before .wide .result - 1) lt (freeQueue 0)))
+    ∙ task-waiting (onlyQueues t) (a .t) (decodeTask r) (c .before .before .before .before .before .before .before .before .if2 .left) (c .before .before .before .before .before .before .wide .result - 1) (sym (c .before .before .before .before .before .before .wide .ensures .0) ∙ omega arith) lt
 
 pub task-sound-spec : {M : Type 1} → statement M
-task-sound-spec =
-    tie.close
-    (tie.spec
-    (search needs)
-    returns
-    (search needs)
-    (search needs)
-    returns-2
-    (search needs)
-    (search needs)
-    returns-3
-    (search needs)
-    returns-4
-    (search needs)
-    (search needs)
-    (search needs)
-    (search needs)
-    returns-5)
+task-sound-spec = tie.close (tie.spec (search needs) returns (search needs) returns-2 (search needs) (search needs) returns-3 (search needs) returns-4 (search needs) (search needs) (search needs) (search needs) returns-5)

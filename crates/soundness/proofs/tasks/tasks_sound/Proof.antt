@@ -1,53 +1,32 @@
 -- `soundness::tasks::tasks_sound` meets its contract. Assumes nothing.
-use Prim.Native.Nat.{_-_}
-use native.Mathlib.Omega.{arith}
+use Prim.Native.Nat.{ℕ}
+use mathlib.Core.Path.{_≡_, refl, _∙_}
+use lib.ListN.{length, length-replicate}
+use Rattle.soundness.proofs.Passes.{whole-fails, marks-small, whole-ranked, tasks-table}
 use borrow.Author.Needs.{needs}
-use Rattle.ranks.proofs.Searches.{AllBelow, all-below, one-more-passes, all-pass, one-fails}
-use Rattle.records.proofs.Writing.{length-decoded, at-lent}
-use Rattle.records.specs.Records.{freshTask}
-use Rattle.records.specs.Bytes.{decodeTask, decodeTasks}
-use Rattle.specification.specs.Sound.{soundTask}
-use Rattle.soundness.specs.Parts.{onlyQueues}
 use Rattle.soundness.proofs.tasks.tasks_sound.Statement.{statement}
 use Rattle.soundness.proofs.tasks.tasks_sound.Tie as tie
 
-abbrev Inv-search : tie.InvT-search
-Inv-search queues tasks good₀ t₀ good t = AllBelow (soundTask (onlyQueues queues)) (decodeTasks tasks) 32 good t
+mark-tasks-requires : tie.Need-mark-tasks-requires
+mark-tasks-requires c κs =
+    let s = c .before .before .before in
+    (s .pre .0, (s .pre .1, refl))
 
-abbrev μ-search : tie.MeasureT-search
-μ-search queues tasks good₀ t₀ good t = 32 - t
+returns : tie.Need-returns
+returns c =
+    let s = c .before .before .before .before .before .before in
+    whole-fails (tasks-table (s .args .queues .now) (s .args .tasks .now) (s .pre .1)) (c .before .before .mark-tasks .ensures) (c .if1 .taken)
 
-search-holds : tie.Need-search-holds Inv-search μ-search
-search-holds c = all-below
+every-ranked-requires : tie.Need-every-ranked-requires
+every-ranked-requires c κs =
+    let s = c .before .before .before .before .before .before .before in
+    let size : length (c .before .before .before .mark-tasks .last .1 .1 .0) ≡ 512 = c .before .before .before .mark-tasks .kept .1 .1 .0 ∙ length-replicate {A = ℕ} 512 0 in
+    (s .pre .0, (size, marks-small (tasks-table (s .args .queues .now) (s .args .tasks .now) (s .pre .1)) (c .before .before .before .mark-tasks .ensures) size (c .before .if1 .left)))
 
-search-again : tie.Need-search-again Inv-search μ-search
-search-again c =
-    let v = c .before .before .before .before .search in
-    one-more-passes (freshTask 1) (length-decoded _ _ _ _) (v .inv) (omega arith) (at-lent decodeTask 32 136 _ _ (omega arith) _) (c .before .task-sound .ensures) (c .if1 .left)
-
-returns : tie.Need-returns Inv-search μ-search
-returns c = all-pass (freshTask 1) (length-decoded _ _ _ _) (c .before .search .inv) (omega arith)
-
-returns-2 : tie.Need-returns-2 Inv-search μ-search
+returns-2 : tie.Need-returns-2
 returns-2 c =
-    let v = c .before .before .before .before .search in
-    one-fails (freshTask 1) (length-decoded _ _ _ _) (v .inv) (omega arith) (at-lent decodeTask 32 136 _ _ (omega arith) _) (c .before .task-sound .ensures) (c .if1 .taken)
+    let s = c .before .before .before .before .before .before .before .before in
+    whole-ranked (tasks-table (s .args .queues .now) (s .args .tasks .now) (s .pre .1)) (c .before .before .before .before .mark-tasks .ensures) (c .before .before .before .before .mark-tasks .kept .1 .1 .0 ∙ length-replicate {A = ℕ} 512 0) (c .before .before .if1 .left) (c .every-ranked .ensures)
 
 pub tasks-sound-spec : {M : Type 1} → statement M
-tasks-sound-spec =
-    tie.close
-    (tie.spec
-    Inv-search
-    μ-search
-    search-holds
-    (search needs)
-    (search needs)
-    (search needs)
-    (search needs)
-    (search needs)
-    (search needs)
-    (search needs)
-    (search needs)
-    search-again
-    returns
-    returns-2)
+tasks-sound-spec = tie.close (tie.spec (search needs) mark-tasks-requires returns (search needs) every-ranked-requires returns-2)

@@ -1,0 +1,27 @@
+-- `manager::clocktick::tick_after` meets its contract. Assumes nothing.
+use mathlib.Core.Path.{_∙_}
+use Rattle.manager.specs.Outcomes.{tables}
+use Rattle.manager.proofs.Calls.{table-passed, tick-refused, tick-accepted}
+use borrow.Author.Needs.{needs}
+use Rattle.manager.proofs.clocktick.tick_after.Statement.{statement}
+use Rattle.manager.proofs.clocktick.tick_after.Tie as tie
+
+returns : tie.Need-returns
+returns c =
+    let s = c .before .before .before .before in
+    tick-refused (tables (s .args .queues .now) (s .args .pool .now) (s .args .tasks .now)) (s .pre) (c .if1 .taken)
+
+tick-requires : tie.Need-tick-requires
+tick-requires c κs =
+    let s = c .before .before .before .before .before .before in
+    table-passed (tables (s .args .queues .now) (s .args .pool .now) (s .args .tasks .now)) (s .pre) (c .before .before .if1 .left)
+
+returns-2 : tie.Need-returns-2
+returns-2 c =
+    let s = c .before .before .before .before .before .before .before .before .before .before .before in
+    let t = tables (s .args .queues .now) (s .args .pool .now) (s .args .tasks .now) in
+    let ok = table-passed t (s .pre) (c .before .before .before .before .before .before .before .if1 .left) in
+    c .before .before .before .before .tick .ensures ∙ tick-accepted t (ok .0) (ok .1)
+
+pub tick-after-spec : {M : Type 1} → statement M
+tick-after-spec = tie.close (tie.spec returns tick-requires (search needs) (search needs) returns-2)

@@ -1,0 +1,62 @@
+-- The C interface: what each function returns, the bytes that it leaves in the answer buffer, and the tables that it leaves.
+use Rattle.ranks.specs.Prelude.{ℕ, List, length, drop, eqb}
+use Rattle.ranks.specs.Lists.{if_then_else_}
+use Rattle.ranks.specs.Table.{byte}
+use Rattle.records.specs.Bytes.{Tables}
+use Rattle.records.specs.Status.{SUCCESSFUL, BAD-SHAPE}
+use Rattle.specification.specs.Answer.{Outcome}
+use Rattle.specification.specs.Call.{Operation, Call, delete, send, urgent, broadcast, receive, getNumberPending, flush, create, ident, onQueue, call, tick}
+use Rattle.specification.specs.Step.{step}
+use Rattle.calllog.specs.CallLog.{readRecord}
+use Rattle.runs.specs.Replay.{answerRecord, outcomeFor, ReplayedInto, replayedInto}
+
+pub record Returned : Type 0 where
+  pub status : ℕ
+  pub answer : List ℕ
+  pub after : Tables
+
+-- ---- One call
+
+-- "An answer record is 16 bytes"
+abbrev pub answerWidth : ℕ
+answerWidth = 16
+
+-- The outcome of a call whose record would have the first byte given. A buffer of another length gets 16, and nothing is done.
+unfoldable pub answeredInto : (lent : List ℕ) → Tables → (first : ℕ) → Outcome Tables → Returned
+answeredInto lent t first o =
+    if eqb (length lent) answerWidth
+    then record { status = o .answer .status; answer = answerRecord (o .answer) first; after = o .after }
+    else record { status = BAD-SHAPE; answer = lent; after = t }
+
+-- "0 operation (1 to 10 in the order create, ident, delete, send, urgent, broadcast, receive, pending, flush, tick)"
+unfoldable pub operationNumber : Operation → ℕ
+operationNumber delete = 3
+operationNumber (send message) = 4
+operationNumber (urgent message) = 5
+operationNumber (broadcast message) = 6
+operationNumber (receive option ticks) = 7
+operationNumber getNumberPending = 8
+operationNumber flush = 9
+
+unfoldable pub callNumber : Call → ℕ
+callNumber (call caller (create name limit maxSize attributes)) = 1
+callNumber (call caller (ident name share)) = 2
+callNumber (call caller (onQueue id operation)) = operationNumber operation
+callNumber tick = 10
+
+-- a directive or a tick
+abbrev pub called : (lent : List ℕ) → Tables → Call → Returned
+called lent t c = answeredInto lent t (callNumber c) (step t c)
+
+-- a call record; one of another length than 136 bytes is malformed
+abbrev pub calledRecord : (lent : List ℕ) → Tables → (bytes : List ℕ) → Returned
+calledRecord lent t bytes = answeredInto lent t (byte 0 bytes) (outcomeFor t (readRecord bytes) (drop 16 bytes))
+
+-- ---- A log
+
+-- 0 for a log that was replayed, 16 where the lent bytes have no room for its answer records
+abbrev pub returnedOf : ReplayedInto → Returned
+returnedOf r = record { status = if r .done then SUCCESSFUL else BAD-SHAPE; answer = r .answers; after = r .after }
+
+abbrev pub replayedLog : (lent : List ℕ) → Tables → (log : List ℕ) → Returned
+replayedLog lent t log = returnedOf (replayedInto t log lent)

@@ -1,0 +1,24 @@
+-- `records::bytes::read_u64` meets its contract. Assumes nothing.
+use native.Mathlib.Omega.{arith}
+use borrow.Author.Needs.{needs}
+use Rattle.records.proofs.Writing
+use Rattle.records.proofs.bytes.read_u64.Statement.{statement}
+use Rattle.records.proofs.bytes.read_u64.Tie as tie
+
+returns : tie.Need-returns
+returns c =
+    let s = c .before .before .before in
+    omega (arith, Writing.number-add (s .args .at) 4 4 (s .args .t .now) (omega arith), c .before .read-u32 .ensures, c .read-u322 .ensures)
+
+pub read-u64-spec : {M : Type 1} → statement M
+read-u64-spec =
+    tie.close
+    (tie.spec
+    (search needs)
+    (search needs)
+    (search needs)
+    (search needs)
+    (search needs)
+    (search needs)
+    (search needs)
+    returns)

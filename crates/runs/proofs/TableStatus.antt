@@ -1,0 +1,131 @@
+-- The tests of the tables give the same status after each record of a log as before it. Assumes nothing.
+use Prim.Native.Nat.{ℕ, zero, suc, _+_, _^_, _≤_, _<_}
+use native.Mathlib.Nat.{pow-suc}
+use native.Mathlib.Omega.{arith}
+use mathlib.Core.Path.{_≡_, refl, sym, ap, subst, _∙_}
+use mathlib.Core.Bool.{Bool, true, false, _&&_}
+use mathlib.Core.Logic.{⊎-elim}
+use mathlib.Core.List.{List, [], _∷_, map}
+use lib.Dec.{eqb, ltb}
+use lib.ListN.{length, take, drop, length-take, List·getD-eq-default}
+use lib.Seq.{getD-take, getD-drop}
+use borrow.Author.Tests.{lt-ltb}
+use Rattle.ranks.specs.Lists.{if_then_else_, all}
+use Rattle.ranks.specs.Table.{slice}
+use Rattle.ranks.proofs.Tests.{same?, lt-or-ge}
+use Rattle.records.specs.Bytes.{Tables, fromLittleEndian}
+use Rattle.specification.specs.Answer.{Outcome, firstStatus}
+use Rattle.specification.specs.Call.{Call, call, tick, argumentsInRange, directiveInRange, operationInRange}
+use Rattle.specification.specs.Step.{step}
+use Rattle.theorems.specs.SoundTables.{SoundTables}
+use Rattle.theorems.proofs.Demand2.{demand-2}
+use Rattle.manager.specs.Outcomes.{tableRefusals}
+use Rattle.manager.proofs.Outcomes.{Slice}
+use Rattle.manager.proofs.Calls.{refused-call, table-refused, table-passed, tick-refused}
+use Rattle.calllog.specs.CallLog.{recordWidth, operation, caller, option, size, id, ticks, limit, maxSize, _of_, rowOf, keepsRow, callWith, readRecord}
+use Rattle.calllog.specs.CallLog
+use Rattle.calllog.specs.declared.call.LogResult.{LogResult}
+use Rattle.calllog.specs.declared.call.LogResult.the-variants.{WellFormed, Malformed, End}
+use Rattle.runs.specs.Replay.{directiveOf, callOf, outcomeFor, replayRecord}
+
+-- ---- Bytes, and the numbers in them
+
+abbrev Word : ℕ → Type 0
+Word n = ltb n 4294967296 ≡ true
+
+taken : (n : ℕ) (l : List ℕ) → Slice l → Slice (take n l)
+taken n l s i =
+    ⊎-elim (λ (h : i < n). subst (λ (b : ℕ). b < 256) (sym (getD-take n l i 0 h)) (s i))
+    (λ (h : n ≤ i). let e = List·getD-eq-default (take n l) 0 {n = i} (omega (arith, length-take n l)) in omega (arith, e)) (lt-or-ge i n)
+
+dropped : (n : ℕ) (l : List ℕ) → Slice l → Slice (drop n l)
+dropped n l s i = subst (λ (b : ℕ). b < 256) (sym (getD-drop n l i 0)) (s (n + i))
+
+pub sliced : (i n : ℕ) (l : List ℕ) → Slice l → Slice (slice i n l)
+unfolding slice
+sliced i n l s = taken n (drop i l) (dropped i l s)
+
+all-bytes : (l : List ℕ) → Slice l → all (map (λ b. ltb b 256) l) ≡ true
+unfolding all
+all-bytes [] s = refl
+all-bytes (b ∷ l) s = rw (lt-ltb b 256 (s 0)) (all-bytes l (λ i. s (suc i)))
+
+number-below : (n : ℕ) (l : List ℕ) → length l ≤ n → Slice l → fromLittleEndian l < 256 ^ n
+unfolding fromLittleEndian
+number-below n [] h s = power n
+  where
+    power : (n : ℕ) → 0 < 256 ^ n
+    power zero = omega arith
+    power (suc n) = omega (arith, power n, pow-suc 256 n)
+number-below zero (b ∷ l) h s = absurd (omega (arith, h))
+number-below (suc n) (b ∷ l) h s = omega (arith, number-below n l (omega (arith, h)) (λ i. s (suc i)), s 0, pow-suc 256 n)
+
+word : (i n : ℕ) (r : List ℕ) → n ≤ 4 → Slice r → Word (fromLittleEndian (slice i n r))
+unfolding slice
+word i n r h s =
+    lt-ltb (fromLittleEndian (slice i n r)) 4294967296 (number-below 4 (slice i n r) (omega (arith, length-take n (drop i r))) (sliced i n r s))
+
+-- ---- The numbers of a call are of 32 bits, and its message is of bytes
+
+abbrev InRange : List ℕ → LogResult → Type 0
+InRange m (WellFormed c) = argumentsInRange (callOf c m) ≡ true
+InRange m Malformed = Unit {0}
+InRange m End = Unit {0}
+
+either : (m : List ℕ) (b : Bool) (x y : LogResult) → InRange m x → InRange m y → InRange m (if b then x else y)
+either m true x y p q = p
+either m false x y p q = q
+
+call-in-range : (m : List ℕ) (op caller′ option′ size′ id′ ticks′ limit′ maxSize′ : ℕ) → Slice m → Word caller′ → Word option′ → Word id′ → Word ticks′ → Word limit′ → Word maxSize′
+    → InRange m (callWith op caller′ option′ size′ id′ ticks′ limit′ maxSize′)
+unfolding callWith callOf directiveOf argumentsInRange directiveInRange operationInRange all
+call-in-range m op caller′ option′ size′ id′ ticks′ limit′ maxSize′ s c o i t l x =
+    either m (eqb op 1) _ _ (rw (c, i, l, x, o))
+    (either m (eqb op 2) _ _ (rw (c, i, t))
+    (either m (eqb op 3) _ _ (rw (c, i))
+    (either m (eqb op 4) _ _ (rw (c, i) (all-bytes (take size′ m) (taken size′ m s)))
+    (either m (eqb op 5) _ _ (rw (c, i) (all-bytes (take size′ m) (taken size′ m s)))
+    (either m (eqb op 6) _ _ (rw (c, i) (all-bytes (take size′ m) (taken size′ m s)))
+    (either m (eqb op 7) _ _ (rw (c, i, o, t))
+    (either m (eqb op 8) _ _ (rw (c, i))
+    (either m (eqb op 9) _ _ (rw (c, i))
+    (either m (eqb op 10) _ Malformed refl tt)))))))))
+
+record-in-range : (r : List ℕ) → Slice r → InRange (drop 16 r) (readRecord r)
+unfolding readRecord CallLog.callOf
+record-in-range r s =
+    either (drop 16 r) (eqb (length r) recordWidth && keepsRow (rowOf (operation of r)) r) (CallLog.callOf r) Malformed
+    (call-in-range (drop 16 r) (operation of r) (caller of r) (option of r) (size of r) (id of r) (ticks of r) (limit of r) (maxSize of r) (dropped 16 r s)
+    (word 1 1 r (omega arith) s) (word 2 1 r (omega arith) s) (word 4 4 r (omega arith) s) (word 8 4 r (omega arith) s) (word 12 1 r (omega arith) s) (word 13 1 r (omega arith) s))
+    tt
+
+-- ---- One record of a log
+
+module _ (t : Tables) {n : ℕ} (e : n ≡ firstStatus (tableRefusals t)) where
+  -- a call on tables that fail a test of their own changes nothing
+  unchanged : (c : Call) → (n ≡ 0 → ⊥) → t ≡ step t c .after
+  unchanged (call caller directive) ne = ap (λ (o : Outcome Tables). o .after) (refused-call t caller directive n (table-refused t e caller ne) ne)
+  unchanged tick ne = ap (λ (o : Outcome Tables). o .after) (tick-refused t e ne)
+
+  -- a call on tables that passed them leaves sound tables
+  sound-still : Slice (t .queues) → Slice (t .pool) → Slice (t .tasks) → (c : Call) → argumentsInRange c ≡ true → n ≡ 0 → n ≡ firstStatus (tableRefusals (step t c .after))
+  unfolding firstStatus
+  sound-still bq bp bw c p z =
+      let ok = table-passed t e z in
+      let before : SoundTables t = record {
+        bytes = record { lengths = ok .0; queues = record { below = λ i _. bq i }; pool = record { below = λ i _. bp i }; tasks = record { below = λ i _. bw i } };
+        isSound = ok .1;
+      } in
+      let after = demand-2 .sound-stays t c before p in
+      rw (after .bytes .lengths, after .isSound) z
+
+  pub status-stays : (r : List ℕ) → Slice (t .queues) → Slice (t .pool) → Slice (t .tasks) → Slice r → n ≡ firstStatus (tableRefusals (replayRecord t r .after))
+  unfolding replayRecord outcomeFor
+  status-stays r bq bp bw s = go (readRecord r) (record-in-range r s)
+    where
+      go : (f : LogResult) → InRange (drop 16 r) f → n ≡ firstStatus (tableRefusals (outcomeFor t f (drop 16 r) .after))
+      go (WellFormed c) p =
+          ⊎-elim (λ z. sound-still bq bp bw (callOf c (drop 16 r)) p z)
+          (λ ne. e ∙ ap (λ (x : Tables). firstStatus (tableRefusals x)) (unchanged (callOf c (drop 16 r)) ne)) (same? n 0)
+      go Malformed p = e
+      go End p = e

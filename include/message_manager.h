@@ -301,7 +301,7 @@ uint32_t message_manager_call(
  *
  *   answers, answers_size  room for an answer of 16 bytes to each record
  *
- * All answers and tables are as if message_manager_call had been called for each record, but sound tables are searched
+ * All answers and tables are as if message_manager_call had been called for each record, but the tables are searched
  * once and not at each call, so a log takes less time.
  *
  * Returns BAD_SHAPE and has done nothing where `answers` has no room; else SUCCESSFUL, whatever the answers say.

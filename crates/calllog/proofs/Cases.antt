@@ -11,7 +11,7 @@ use Rattle.calllog.specs.declared.call.Call.the-variants.{By, Tick}
 use Rattle.calllog.specs.declared.call.LogResult.{LogResult}
 use Rattle.calllog.specs.declared.call.LogResult.the-variants.{WellFormed, Malformed, End}
 use Rattle.calllog.specs.declared.reader.Step.{Step}
-use Rattle.calllog.specs.CallLog.{rows, rowOf, names, keepsRow, callWith, callOf, readRecord, readAt, placeAfter, stepAt, answerBytes}
+use Rattle.calllog.specs.CallLog.{rows, rowOf, names, keepsRow, callWith, callIn, readRecord, readAt, placeAfter, stepAt, answerBytes}
 
 record Case : Type 0 where
   bytes : List ℕ
@@ -61,7 +61,7 @@ cases =
     ∷ []
 
 cases-hold : map (λ c. readRecord (c .bytes)) cases ≡ map (λ c. c .result) cases
-unfolding rows rowOf names keepsRow callWith callOf readRecord all allZero slice fromLittleEndian
+unfolding rows rowOf names keepsRow callWith callIn readRecord all allZero slice fromLittleEndian
 cases-hold = refl
 
 -- a log of a tick and of a short part of 135 bytes, read at 0, at 136, at its end and past it
@@ -72,7 +72,7 @@ abbrev step : LogResult → ℕ → Step
 step result next = record { result = result; next = next }
 
 log-read : map (stepAt log) (0 ∷ 136 ∷ 271 ∷ 300 ∷ []) ≡ step (WellFormed Tick) 136 ∷ step Malformed 271 ∷ step End 271 ∷ step End 300 ∷ []
-unfolding rows rowOf names keepsRow callWith callOf readRecord readAt placeAfter all allZero slice fromLittleEndian
+unfolding rows rowOf names keepsRow callWith callIn readRecord readAt placeAfter all allZero slice fromLittleEndian
 log-read = refl
 
 -- the answer to the first create: "`00 01 00 00 10 00 00 00 00 00 00 00 00 00 00 00`"

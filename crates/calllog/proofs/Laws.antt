@@ -19,7 +19,7 @@ use Rattle.records.specs.Bytes.{fromLittleEndian}
 use Rattle.records.proofs.ZeroBytes.{zero-number}
 use Rattle.calllog.specs.declared.rows.Row.{Row}
 use Rattle.calllog.specs.declared.call.LogResult.the-variants.{Malformed, End}
-use Rattle.calllog.specs.CallLog.{Field, operation, caller, option, size, id, ticks, limit, maxSize, message, _of_, rows, rowOf, names, flags, keepsRow, callWith, callOf, readRecord, readAt, placeAfter}
+use Rattle.calllog.specs.CallLog.{Field, operation, caller, option, size, id, ticks, limit, maxSize, message, _of_, rows, rowOf, names, flags, keepsRow, callWith, callIn, readRecord, readAt, placeAfter}
 
 -- ---- Numbers in fields
 
@@ -120,8 +120,8 @@ module _ (r : List ℕ) (whole : length r ≡ 136) where
 
 -- of operation k, with the numbers that were read
 pub call-at : (r : List ℕ) (k i t : ℕ) → byte 0 r ≡ k → i ≡ fromLittleEndian (slice 4 4 r) → t ≡ fromLittleEndian (slice 8 4 r)
-    → callWith k (byte 1 r) (byte 2 r) (byte 3 r) i t (byte 12 r) (byte 13 r) ≡ callOf r
-unfolding callOf
+    → callWith k (byte 1 r) (byte 2 r) (byte 3 r) i t (byte 12 r) (byte 13 r) ≡ callIn r
+unfolding callIn
 call-at r k i t e p q =
     λ j. callWith ((sym e ∙ one-byte 0 r) j) (one-byte 1 r j) (one-byte 2 r j) (one-byte 3 r j) (p j) (q j) (one-byte 12 r j) (one-byte 13 r j)
 
@@ -147,8 +147,8 @@ another o caller option size id ticks limit maxSize n =
       ne-eqb o 10 (n .1),
     )
 
-pub call-other : (r : List ℕ) → Another (byte 0 r) → callOf r ≡ Malformed
-unfolding callOf
+pub call-other : (r : List ℕ) → Another (byte 0 r) → callIn r ≡ Malformed
+unfolding callIn
 call-other r h =
     ap (λ (n : ℕ). callWith n (caller of r) (option of r) (size of r) (id of r) (ticks of r) (limit of r) (maxSize of r)) (sym (one-byte 0 r))
     ∙ another (byte 0 r) (caller of r) (option of r) (size of r) (id of r) (ticks of r) (limit of r) (maxSize of r) h
@@ -156,10 +156,10 @@ call-other r h =
 -- ---- What a record says
 
 pub record-kept : (r : List ℕ) → length r ≡ 136 → (b : Bool) (k : ℕ) → k ≡ byte 0 r → b ≡ keepsRow (rowOf k) r
-    → readRecord r ≡ (if b then callOf r else Malformed)
+    → readRecord r ≡ (if b then callIn r else Malformed)
 unfolding readRecord
 record-kept r whole b k e p =
-    ap (λ (c : Bool). if c then callOf r else Malformed)
+    ap (λ (c : Bool). if c then callIn r else Malformed)
     (ap (λ (c : Bool). c && keepsRow (rowOf (operation of r)) r) (eq-eqb (length r) 136 whole)
     ∙ ap (λ (n : ℕ). keepsRow (rowOf n) r) (sym (e ∙ one-byte 0 r)) ∙ sym p)
 

@@ -147,12 +147,12 @@ callWith operation caller option size id ticks limit maxSize =
     else if eqb operation 10 then WellFormed Tick
     else Malformed
 
-unfoldable pub callOf : List ℕ → LogResult
-callOf r = callWith (operation of r) (caller of r) (option of r) (size of r) (id of r) (ticks of r) (limit of r) (maxSize of r)
+unfoldable pub callIn : List ℕ → LogResult
+callIn r = callWith (operation of r) (caller of r) (option of r) (size of r) (id of r) (ticks of r) (limit of r) (maxSize of r)
 
 -- "a short last part" is malformed, and so is a record that does not keep its row
 unfoldable pub readRecord : List ℕ → LogResult
-readRecord r = if eqb (length r) recordWidth && keepsRow (rowOf (operation of r)) r then callOf r else Malformed
+readRecord r = if eqb (length r) recordWidth && keepsRow (rowOf (operation of r)) r then callIn r else Malformed
 
 -- ---- The reader: "holds the lent log bytes and the place reached"
 

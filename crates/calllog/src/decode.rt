@@ -2,7 +2,7 @@
 ghost use mathlib.Core.Path.{_≡_};
 ghost use lib.ListN.{length, drop};
 ghost use Rattle.ranks.specs.Lists.{allZero};
-ghost use Rattle.calllog.specs.CallLog.{rowOf, keepsRow, callOf, readRecord, readAt, placeAfter};
+ghost use Rattle.calllog.specs.CallLog.{rowOf, keepsRow, callIn, readRecord, readAt, placeAfter};
 use crate::call::Call;
 use crate::call::Directive;
 use crate::call::LogResult;
@@ -40,7 +40,7 @@ fn keeps_row(operation: usize, r: &[u8]) -> bool
 // The call of a record's operation.
 fn call_of(r: &[u8]) -> LogResult
     requires { ⌜ length (now r) ≡ 136 ⌝ }
-    ensures { λ x. ⌜ x ≡ callOf (now (r .entry)) ⌝ }
+    ensures { λ x. ⌜ x ≡ callIn (now (r .entry)) ⌝ }
 {
     let operation = r[0];
     let caller = r[1];

@@ -92,9 +92,9 @@ call-in-range m op caller′ option′ size′ id′ ticks′ limit′ maxSize�
     (either m (eqb op 10) _ Malformed refl tt)))))))))
 
 record-in-range : (r : List ℕ) → Slice r → InRange (drop 16 r) (readRecord r)
-unfolding readRecord CallLog.callOf
+unfolding readRecord CallLog.callIn
 record-in-range r s =
-    either (drop 16 r) (eqb (length r) recordWidth && keepsRow (rowOf (operation of r)) r) (CallLog.callOf r) Malformed
+    either (drop 16 r) (eqb (length r) recordWidth && keepsRow (rowOf (operation of r)) r) (CallLog.callIn r) Malformed
     (call-in-range (drop 16 r) (operation of r) (caller of r) (option of r) (size of r) (id of r) (ticks of r) (limit of r) (maxSize of r) (dropped 16 r s)
     (word 1 1 r (omega arith) s) (word 2 1 r (omega arith) s) (word 4 4 r (omega arith) s) (word 8 4 r (omega arith) s) (word 12 1 r (omega arith) s) (word 13 1 r (omega arith) s))
     tt

@@ -4,7 +4,7 @@ use mathlib.Core.Path.{_≡_, sym}
 use mathlib.Core.List.{List}
 use borrow.Author.Needs.{needs}
 use Rattle.ranks.specs.Table.{byte}
-use Rattle.calllog.specs.CallLog.{callWith, callOf}
+use Rattle.calllog.specs.CallLog.{callWith, callIn}
 use Rattle.calllog.proofs.Laws.{call-at, call-other}
 use Rattle.calllog.proofs.decode.call_of.Statement.{statement}
 use Rattle.calllog.proofs.decode.call_of.Tie as tie
@@ -20,7 +20,7 @@ abbrev ticks : tie.After-shared-slice-known7 → ℕ
 ticks s = s .before .before .read-u322 .result
 
 read : (s : tie.After-shared-slice-known7) (k : ℕ) → byte 0 (given s) ≡ k
-    → callWith k (byte 1 (given s)) (byte 2 (given s)) (byte 3 (given s)) (id s) (ticks s) (byte 12 (given s)) (byte 13 (given s)) ≡ callOf (given s)
+    → callWith k (byte 1 (given s)) (byte 2 (given s)) (byte 3 (given s)) (id s) (ticks s) (byte 12 (given s)) (byte 13 (given s)) ≡ callIn (given s)
 read s k e = call-at (given s) k (id s) (ticks s) e (s .before .before .before .read-u32 .ensures) (s .before .before .read-u322 .ensures)
 
 returns : tie.Need-returns

@@ -5,7 +5,7 @@ use borrow.Author.Tests.{not-true, not-false}
 use borrow.Author.Needs.{needs}
 use Rattle.ranks.specs.Lists.{if_then_else_}
 use Rattle.calllog.specs.declared.call.LogResult.the-variants.{Malformed}
-use Rattle.calllog.specs.CallLog.{callOf}
+use Rattle.calllog.specs.CallLog.{callIn}
 use Rattle.calllog.proofs.Laws.{record-kept}
 use Rattle.calllog.proofs.decode.decode_record.Statement.{statement}
 use Rattle.calllog.proofs.decode.decode_record.Tie as tie
@@ -16,7 +16,7 @@ returns c =
     let t = c .before .keeps-row .result in
     sym
     (record-kept r (c .before .before .before .before .before .pre) t (c .before .before .wide .result) (c .before .before .wide .ensures .0) (c .before .keeps-row .ensures)
-    ∙ ap (λ (b : Bool). if b then callOf r else Malformed) (not-true t (c .if1 .taken)))
+    ∙ ap (λ (b : Bool). if b then callIn r else Malformed) (not-true t (c .if1 .taken)))
 
 returns-2 : tie.Need-returns-2
 returns-2 c =
@@ -25,7 +25,7 @@ returns-2 c =
     c .call-of .ensures
     ∙ sym
     (record-kept r (c .before .before .before .before .before .before .pre) t (c .before .before .before .wide .result) (c .before .before .before .wide .ensures .0) (c .before .before .keeps-row .ensures)
-    ∙ ap (λ (b : Bool). if b then callOf r else Malformed) (not-false t (c .before .if1 .left)))
+    ∙ ap (λ (b : Bool). if b then callIn r else Malformed) (not-false t (c .before .if1 .left)))
 
 pub decode-record-spec : {M : Type 1} → statement M
 decode-record-spec =

@@ -17,14 +17,13 @@ use prog.Memory.{Memory}
 use prog.Routine.{Routine}
 use prog.Wp.{Heap, Calls, Loops, WpFn, Tables}
 use ghost.Atoms.{Atoms, sem}
-use contract.Lifetimes.{Lfts}
 use contract.Monad.{Fun, fact}
 use contract.Running.{givenOf, tables, tablesOf}
 use types.Kit.{Given, ‵, raw, _⊛_, ⋆, some, later, _$_, _∵_, !, qed, by, move, drop, keep, use1, use2, rewrite, split, join, pick, fsplit, fjoin, suffices, frame, await, done}
 use types.Part.{whole, sub, look-in, agg}
 use types.Run.{look, init, forget, stop, fld, from, load, of-opd, and-then, no-more, assigns, land, returns, enter, alloc1, alloc0, params1, pass1, pass0, free1, free0}
 use sound.WpLaws.{FmC, fmOf, WpFn-mono}
-use denote.RattleType.{RattleType, owns}
+use denote.RattleType.{owns}
 use denote.Laws.{Is, shows}
 use denote.Plain.{uint-makes, uint-vals, uint-tells}
 use denote.Builtin.{u8, usize}
@@ -49,6 +48,7 @@ use Rattle.calllog.specs.declared.reader.LogReader.{LogReader}
 use Rattle.calllog.specs.declared.reader.Step.{Step}
 use Rattle.calllog.proofs.call.LogResult as S
 use Rattle.calllog.proofs.call.LogResult.Laws as S′
+use Rattle.calllog.proofs.ReaderParts.{B}
 use Rattle.calllog.proofs.reader.LogReader as T
 use Rattle.calllog.proofs.reader.LogReader.Laws as T′
 use Rattle.calllog.proofs.reader.Step as U
@@ -65,10 +65,6 @@ use Rattle.calllog.proofs.reader.read_at.Key.{name as #calllog·reader�
 use Rattle.calllog.proofs.reader.read_at as read-at
 use Rattle.calllog.proofs.reader.read_at.Statement as stated
 use Rattle.calllog.proofs.reader.read_at.Code as code
-
--- the reader's type, over the signature's lifetimes
-abbrev B : Lfts 1 → RattleType
-B κs = T.the-row (namedLft 1 0 tt κs)
 
 abbrev stayed : Stays (read-at.ended .signature .params) (read-at.ended .kept)
 stayed = (stay-none-slice (0 ∷ []) tt (plain (λ _. u8)) yes, (stay-none (λ _. usize) yes, tt))

@@ -3,7 +3,7 @@ use Prim.Native.Nat.{ℕ, _-_}
 use mathlib.Core.Path.{_≡_, refl}
 use mathlib.Core.List.{List, [], _∷_, _++_, map}
 use lib.ListN.{length, take, replicate}
-use Rattle.ranks.specs.Lists.{all, allZero}
+use Rattle.ranks.specs.Lists.{allTrue, allZero}
 use Rattle.ranks.specs.Table.{slice}
 use Rattle.records.specs.Bytes.{fromLittleEndian, toLittleEndian}
 use Rattle.calllog.specs.declared.call.Directive.the-variants.{Create, Ident, Send, Receive}
@@ -61,7 +61,7 @@ cases =
     ∷ []
 
 cases-hold : map (λ c. readRecord (c .bytes)) cases ≡ map (λ c. c .result) cases
-unfolding rows rowOf names keepsRow callWith callIn readRecord all allZero slice fromLittleEndian
+unfolding rows rowOf names keepsRow callWith callIn readRecord allTrue allZero slice fromLittleEndian
 cases-hold = refl
 
 -- a log of a tick and of a short part of 135 bytes, read at 0, at 136, at its end and past it
@@ -72,7 +72,7 @@ abbrev step : LogResult → ℕ → Step
 step result next = record { result = result; next = next }
 
 log-read : map (stepAt log) (0 ∷ 136 ∷ 271 ∷ 300 ∷ []) ≡ step (WellFormed Tick) 136 ∷ step Malformed 271 ∷ step End 271 ∷ step End 300 ∷ []
-unfolding rows rowOf names keepsRow callWith callIn readRecord readAt placeAfter all allZero slice fromLittleEndian
+unfolding rows rowOf names keepsRow callWith callIn readRecord readAt placeAfter allTrue allZero slice fromLittleEndian
 log-read = refl
 
 -- the answer to the first create: "`00 01 00 00 10 00 00 00 00 00 00 00 00 00 00 00`"

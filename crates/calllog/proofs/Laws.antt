@@ -11,7 +11,7 @@ use lib.Dec.{eqb, leb}
 use lib.ListN.{length, getD, take, drop, List·getD-map, List·getD-eq-default, drop-of-length-le, length-take, length-drop}
 use lib.Seq.{drop-cons, take-all}
 use borrow.Author.Tests.{eq-eqb, ne-eqb, le-ltb, lt-ltb, eqb-true}
-use Rattle.ranks.specs.Lists.{if_then_else_, all, allZero}
+use Rattle.ranks.specs.Lists.{if_then_else_, allTrue, allZero}
 use Rattle.ranks.specs.Table.{slice, byte}
 use Rattle.ranks.proofs.Lists.{zeros-cons, zeros-nil}
 use Rattle.ranks.proofs.Tests.{same?}
@@ -61,8 +61,8 @@ message-with-size k =
 
 -- the code's tests, one after the other, are the definition's; the test of the message is none of its own
 in-order : (a b s c d e f m g t z : Bool) → (s ≡ true → m && z ≡ z)
-    → (a && b && s && c && d && e && f && g && t && z) ≡ all (all (a ∷ b ∷ s ∷ c ∷ d ∷ e ∷ f ∷ m ∷ []) ∷ g ∷ t ∷ z ∷ [])
-unfolding all
+    → (a && b && s && c && d && e && f && g && t && z) ≡ allTrue (allTrue (a ∷ b ∷ s ∷ c ∷ d ∷ e ∷ f ∷ m ∷ []) ∷ g ∷ t ∷ z ∷ [])
+unfolding allTrue
 in-order false b s c d e f m g t z k = refl
 in-order true false s c d e f m g t z k = refl
 in-order true true false c d e f m g t z k = refl
@@ -108,8 +108,8 @@ module _ (r : List ℕ) (whole : length r ≡ 136) where
         ∙ in-order _ _ _ _ _ _ _ (names (rowOf k) message || allZero (drop 16 r)) _ _ (allZero (drop (byte 3 r) (drop 16 r)))
         (λ s. ap (λ (b : Bool). (b || allZero (drop 16 r)) && allZero (drop (byte 3 r) (drop 16 r))) (message-with-size k)
         ∙ no-message (names (rowOf k) size) (byte 3 r) (drop 16 r) s)
-        ∙ (λ j. all
-        (all
+        ∙ (λ j. allTrue
+        (allTrue
         ((names (rowOf k) caller || zero-byte 1 r j) ∷ (names (rowOf k) option || zero-byte 2 r j) ∷ (names (rowOf k) size || zero-byte 3 r j)
         ∷ (names (rowOf k) id || zero-at i 4 p j) ∷ (names (rowOf k) ticks || zero-at t 8 q j)
         ∷ (names (rowOf k) limit || zero-byte 12 r j) ∷ (names (rowOf k) maxSize || zero-byte 13 r j)

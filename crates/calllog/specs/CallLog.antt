@@ -1,6 +1,6 @@
 -- Document 01, "The call log": what the bytes of a log say.
 use Rattle.ranks.specs.Prelude.{ℕ, _+_, min, Bool, false, _&&_, _||_, List, [], _∷_, _++_, map, length, getD, drop, replicate, eqb, leb, ltb}
-use Rattle.ranks.specs.Lists.{if_then_else_, all, allZero}
+use Rattle.ranks.specs.Lists.{if_then_else_, allTrue, allZero}
 use Rattle.ranks.specs.Table.{slice}
 use Rattle.records.specs.Bytes.{fromLittleEndian, toLittleEndian}
 use Rattle.calllog.specs.declared.rows.Row.{Row}
@@ -117,11 +117,11 @@ names (f ∷ row) field = eqb (f .place) (field .place) || names row field
 
 -- "Anything else not zero": a field that the row does not name is zero.
 abbrev pub elseZero : List Field → List ℕ → Bool
-elseZero row r = all (map (λ field. names row field || allZero (bytesOf field r)) fields)
+elseZero row r = allTrue (map (λ field. names row field || allZero (bytesOf field r)) fields)
 
 unfoldable pub keepsRow : List Field → List ℕ → Bool
 keepsRow row r =
-    all
+    allTrue
     (elseZero row r
     -- "14-15 zero"
     ∷ allZero (bytesOf reserved r)

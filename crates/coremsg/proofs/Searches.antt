@@ -9,7 +9,7 @@ use mathlib.Core.Bool.{Bool, true, false}
 use mathlib.Core.List.{List, map}
 use lib.Dec.{eqb}
 use lib.ListN.{length, getD, drop, length-map}
-use Rattle.ranks.specs.Lists.{mapWithIndex, first}
+use Rattle.ranks.specs.Lists.{mapWithIndex, firstTrue}
 use Rattle.ranks.specs.Table.{slice, records}
 use Rattle.ranks.proofs.Lists.{at-mapped, length-mapped, first-true, first-more, first-here, first-none}
 use Rattle.ranks.proofs.Table.{length-records}
@@ -33,13 +33,13 @@ module _ {A : Type 0} (read : List ℕ → A) (d : A) (k n : ℕ) (test : ℕ �
 
   -- the first that passes is not among the first i
   abbrev pub Searched : ℕ → Type 0
-  Searched i = (i ≤ k) × (first tests ≡ i + first (drop i tests))
+  Searched i = (i ≤ k) × (firstTrue tests ≡ i + firstTrue (drop i tests))
 
   pub search-begins : Searched 0
-  search-begins = (omega arith, sym (zero-add (first tests)))
+  search-begins = (omega arith, sym (zero-add (firstTrue tests)))
 
   module _ (i : ℕ) (so-far : Searched i) where
-    pub search-ends : i ≡ k → i ≡ first tests
+    pub search-ends : i ≡ k → i ≡ firstTrue tests
     search-ends e = first-none tests i (so-far .1) (e ∙ sym tests-size)
 
     module _ (h : i < k) where
@@ -48,7 +48,7 @@ module _ {A : Type 0} (read : List ℕ → A) (d : A) (k n : ℕ) (test : ℕ �
           at-mapped test (map read (records k n t)) i d false (omega (arith, table-size))
           ∙ ap (test i) (at-table read k n t i h d)
 
-      pub search-finds : test i (read (slice (i * n) n t)) ≡ true → i ≡ first tests
+      pub search-finds : test i (read (slice (i * n) n t)) ≡ true → i ≡ firstTrue tests
       search-finds e = first-here tests i (so-far .1) (omega (arith, tests-size)) (tested ∙ e)
 
       pub search-goes-on : test i (read (slice (i * n) n t)) ≡ false → Searched (i + 1)
@@ -61,7 +61,7 @@ module _ {A : Type 0} (read : List ℕ → A) (d : A) (k n : ℕ) (test : ℕ �
       subst Searched (add-one i) (search-goes-on i (search-begins-at i (omega arith) (λ j lt. none j (omega arith))) (omega arith) (none i (omega arith)))
 
   -- the record that was found passes the test
-  pub search-found : (i : ℕ) → i < k → i ≡ first tests → test i (read (slice (i * n) n t)) ≡ true
+  pub search-found : (i : ℕ) → i < k → i ≡ firstTrue tests → test i (read (slice (i * n) n t)) ≡ true
   search-found i h e =
       sym (at-mapped test (map read (records k n t)) i d false (omega (arith, table-size)) ∙ ap (test i) (at-table read k n t i h d))
       ∙ ap (λ (j : ℕ). getD tests j false) e

@@ -9,7 +9,7 @@ use lib.Dec.{eqb, ltb}
 use lib.ListN.{length, getD, take, drop, length-map, length-drop, List·getD-eq-default}
 use lib.Seq.{take-take, take-add, drop-at, drop-drop, length-take-le}
 use borrow.Author.Tests.{eqb-true, ne-eqb}
-use Rattle.ranks.specs.Lists.{if_then_else_, mapWithIndex, first}
+use Rattle.ranks.specs.Lists.{if_then_else_, mapWithIndex, firstTrue}
 use Rattle.ranks.specs.Position.{Position, positionAt, inQueue, standsAt}
 use Rattle.ranks.specs.Steps.{inserted, takenOut, recordAt, Room, firstAt}
 use Rattle.ranks.specs.Table.{slice, records, positionIn, moved}
@@ -31,7 +31,7 @@ use Rattle.coremsg.proofs.Changed.{at-after, head-written}
 pub first-decoded : {A : Type 0} (read : List ℕ → A) (position : A → Position) (place k n slot : ℕ) (t : List ℕ) (d : A)
     → ((r : List ℕ) → positionIn place r ≡ position (read r)) → firstAt place slot (records k n t) ≡ recordAt position slot 0 (map read (records k n t))
 first-decoded read position place k n slot t d same =
-    ap first
+    ap firstTrue
     (mapped-cong (λ j r. standsAt slot 0 (positionIn place r)) (λ j x. standsAt slot 0 (position x)) (records k n t) (map read (records k n t)) [] d false
     (sym (length-map (records k n t) read))
     (λ i h. ap (standsAt slot 0) (same (getD (records k n t) i []) ∙ ap position (sym (at-map read (records k n t) i [] d h)))))

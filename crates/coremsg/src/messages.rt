@@ -3,7 +3,7 @@ ghost use mathlib.Core.Path.{_≡_};
 ghost use Prim.Native.Nat.{_*_, _<_, _≤_};
 ghost use lib.Dec.{eqb};
 ghost use lib.ListN.{length};
-ghost use Rattle.ranks.specs.Lists.{if_then_else_, mapWithIndex, first};
+ghost use Rattle.ranks.specs.Lists.{if_then_else_, mapWithIndex, firstTrue};
 ghost use Rattle.ranks.specs.Position.{inQueue, positionAt};
 ghost use Rattle.ranks.specs.Steps.{inserted, takenOut, Room, recordAt};
 ghost use Rattle.ranks.specs.Table.{slice, records};
@@ -62,7 +62,7 @@ fn is_free(pool: &[u8], share: usize, b: usize) -> bool
 // The lowest such buffer, or 64. No buffer before the first of the share is one.
 pub fn free_buffer(pool: &[u8], share: usize) -> usize
     requires { ⌜ (length (now pool) ≡ 8192) × (share < 4) ⌝ }
-    ensures { λ r. ⌜ r ≡ first (mapWithIndex (isFreeOf share) (decodePool (now (pool .entry)))) ⌝ }
+    ensures { λ r. ⌜ r ≡ firstTrue (mapWithIndex (isFreeOf share) (decodePool (now (pool .entry)))) ⌝ }
 {
     let mut b = first_buffer(share);
     while b < 64 {

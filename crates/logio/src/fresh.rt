@@ -1,6 +1,6 @@
 // Fresh tables, as the replay program starts.
 ghost use mathlib.Core.Path.{_≡_};
-ghost use Rattle.ranks.specs.Lists.{range};
+ghost use Rattle.ranks.specs.Lists.{numbersFrom};
 ghost use Rattle.specification.specs.Run.{freshTables};
 ghost use Rattle.manager.specs.Outcomes.{tables};
 
@@ -13,7 +13,7 @@ pub struct Tables {
 
 // "priority t+1 for task t"
 fn fresh_tasks() -> [u8; 4352]
-    ensures { λ r. ⌜ r ≡ freshTables (range 1 32) .tasks ⌝ }
+    ensures { λ r. ⌜ r ≡ freshTables (numbersFrom 1 32) .tasks ⌝ }
 {
     let mut tasks = [0u8; 4352];
     let mut t = 0;
@@ -26,7 +26,7 @@ fn fresh_tasks() -> [u8; 4352]
 
 // "Fresh tables are zero but for priorities."
 pub fn fresh() -> Tables
-    ensures { λ r. ⌜ tables (r .queues) (r .pool) (r .tasks) ≡ freshTables (range 1 32) ⌝ }
+    ensures { λ r. ⌜ tables (r .queues) (r .pool) (r .tasks) ≡ freshTables (numbersFrom 1 32) ⌝ }
 {
     Tables {
         queues: [0; 256],

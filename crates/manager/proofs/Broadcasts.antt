@@ -5,7 +5,7 @@ use mathlib.Core.Bool.{not}
 use mathlib.Core.List.{List, [], _∷_}
 use lib.Count.{ones}
 use lib.ListN.{length}
-use Rattle.ranks.specs.Lists.{if_then_else_, mapWithIndex, mask, all}
+use Rattle.ranks.specs.Lists.{if_then_else_, mapWithIndex, mask, allTrue}
 use Rattle.ranks.specs.Position.{inQueue}
 use Rattle.ranks.specs.Table.{slice}
 use Rattle.records.specs.Layout.{slotOf}
@@ -36,7 +36,7 @@ module _ (t : Tables) (caller id : ℕ) (message : List ℕ) (q : Queue) (read :
 
   module _ (passed : 0 ≡ firstStatus ((not (usableQueue q caller id) ⇒ INVALID-ID) ∷ of-size)) where
     none : None ((not (usableQueue q caller id) ⇒ INVALID-ID) ∷ of-size)
-    unfolding all
+    unfolding allTrue
     none = none-holds ((not (usableQueue q caller id) ⇒ INVALID-ID) ∷ of-size) refl passed
 
     pub broadcast-size : SoundFacts (decode t) → length message ≤ 120

@@ -5,7 +5,7 @@ use mathlib.Core.Bool.{Bool, true, false}
 use mathlib.Core.List.{List, [], _∷_, _++_}
 use lib.Dec.{eqb}
 use borrow.Author.Tests.{le-leb, lt-leb, not-false}
-use Rattle.ranks.specs.Lists.{all}
+use Rattle.ranks.specs.Lists.{allTrue}
 use Rattle.ranks.specs.Table.{slice}
 use Rattle.records.specs.Records.{Task}
 use Rattle.records.specs.Bytes.{Tables, decodeTask, decode, rightLengths}
@@ -62,7 +62,7 @@ module _ (t : Tables) (caller : ℕ) where
 
   module _ (passed : First 0) where
     none-of-them : None (callRefusals t caller)
-    unfolding all
+    unfolding allTrue
     none-of-them = none-holds (callRefusals t caller) refl passed
 
     pub callable : Callable t caller
@@ -79,7 +79,7 @@ module _ (t : Tables) {n : ℕ} (e : n ≡ firstStatus (tableRefusals t)) where
   table-refused caller ne = e ∙ first-of-both (tableRefusals t) ((badCaller (decode t) caller ⇒ BAD-CALLER) ∷ []) (λ z. ne (e ∙ z))
 
   pub table-passed : n ≡ 0 → (rightLengths t ≡ true) × (sound (decode t) ≡ true)
-  unfolding all
+  unfolding allTrue
   table-passed z = let none = none-holds (tableRefusals t) refl (sym z ∙ e) in (not-false _ (none .0), not-false _ (none .1 .0))
 
   -- "A tick has no caller."

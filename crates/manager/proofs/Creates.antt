@@ -6,7 +6,7 @@ use mathlib.Core.Bool.{Bool, true, false, _&&_, not}
 use mathlib.Core.List.{List, [], _∷_}
 use lib.Dec.{eqb, leb, ltb}
 use borrow.Author.Tests.{ltb-true, leb-true, not-false, ltb-false, leb-false}
-use Rattle.ranks.specs.Lists.{all, every, within, first, mapWithIndex}
+use Rattle.ranks.specs.Lists.{allTrue, every, within, firstTrue, mapWithIndex}
 use Rattle.ranks.specs.Table.{slice}
 use Rattle.ranks.proofs.Tests.{both}
 use Rattle.ranks.proofs.Lists.{holds}
@@ -30,8 +30,8 @@ use Rattle.manager.specs.declared.answer.Answer.{Answer as CodeAnswer}
 use Rattle.manager.specs.declared.answer.Answer.the-variants.{Successful, Refused}
 use Rattle.manager.proofs.Outcomes.{refused}
 
-three : (a b c : Bool) → (a && b && c) ≡ all (a ∷ b ∷ c ∷ [])
-unfolding all
+three : (a b c : Bool) → (a && b && c) ≡ allTrue (a ∷ b ∷ c ∷ [])
+unfolding allTrue
 three true true true = refl
 three true true false = refl
 three true false c = refl
@@ -49,7 +49,7 @@ inside low high n e =
 
 module _ (s : State) (share name limit maxSize attributes : ℕ) where
   pub numbered : Numbered (refusals s share name limit maxSize attributes)
-  unfolding refusals all
+  unfolding refusals allTrue
   numbered = refl
 
 -- ---- Create by its outcome
@@ -69,7 +69,7 @@ module _ (t : Tables) (caller name limit maxSize attributes share : ℕ) (own : 
   refused-create n e ne = refused t _ _ n (e ∙ ap firstStatus same-refusals) ne
 
   module _ (passed : 0 ≡ firstStatus code-refusals) (slot : ℕ)
-      (found : slot ≡ first (mapWithIndex (isFreeSlot share) (decodeQueues (t .queues)))) where
+      (found : slot ≡ firstTrue (mapWithIndex (isFreeSlot share) (decodeQueues (t .queues)))) where
     none-of-them : None code-refusals
     none-of-them = none-holds code-refusals (numbered (onlyQueues (t .queues)) share name limit maxSize attributes) passed
 
@@ -98,7 +98,7 @@ module _ (t : Tables) (caller name limit maxSize attributes share : ℕ) (own : 
 
     slot-is : slot ≡ freeSlot (decode t) (shareOfTask caller)
     unfolding freeSlot decode
-    slot-is = found ∙ ap (λ (p : ℕ). first (mapWithIndex (isFreeSlot p) (decodeQueues (t .queues)))) own
+    slot-is = found ∙ ap (λ (p : ℕ). firstTrue (mapWithIndex (isFreeSlot p) (decodeQueues (t .queues)))) own
 
     pub created : (r : CodeAnswer) (queues′ : List ℕ) → r ≡ Successful (idOf (before .generation + 1) slot) 0 → decodeQueues queues′ ≡ made (λ g. g + 1)
         → encode (decode (tables queues′ (t .pool) (t .tasks))) ≡ tables queues′ (t .pool) (t .tasks) → Outcome-is r (tables queues′ (t .pool) (t .tasks))

@@ -5,7 +5,7 @@ use mathlib.Core.Bool.{Bool, true, false, _&&_, _||_}
 use mathlib.Core.List.{[], _∷_}
 use lib.Dec.{eqb}
 use borrow.Author.Tests.{eq-eqb, ne-eqb, le-leb, lt-leb}
-use Rattle.ranks.specs.Lists.{all, first, mapWithIndex}
+use Rattle.ranks.specs.Lists.{allTrue, firstTrue, mapWithIndex}
 use Rattle.ranks.specs.Table.{slice}
 use Rattle.records.specs.Layout.{idOf}
 use Rattle.records.specs.Split
@@ -21,8 +21,8 @@ use Rattle.specification.specs.Step.{directiveRefusals, effect}
 use Rattle.manager.specs.Outcomes.{answerOf, outcomeOf, accepted}
 use Rattle.manager.specs.declared.answer.Answer.the-variants.{Successful, Refused}
 
-four : (a b c d : Bool) → (a && b && c && d) ≡ all (a ∷ b ∷ c ∷ d ∷ [])
-unfolding all
+four : (a b c d : Bool) → (a && b && c && d) ≡ allTrue (a ∷ b ∷ c ∷ d ∷ [])
+unfolding allTrue
 four true true true true = refl
 four true true true false = refl
 four true true false d = refl
@@ -44,7 +44,7 @@ module _ (t : Tables) (caller name share : ℕ) where
     unfolding answerOf directiveRefusals refusals refuseIfAny shareCount Split.split
     no-share h = rw (ne-eqb name 0 some, le-leb 4 share h)
 
-    module _ (in-share : share < 4) (slot : ℕ) (found : slot ≡ first (mapWithIndex (isNamed caller name share) (decodeQueues (t .queues)))) where
+    module _ (in-share : share < 4) (slot : ℕ) (found : slot ≡ firstTrue (mapWithIndex (isNamed caller name share) (decodeQueues (t .queues)))) where
       slot-is : named (decode t) caller name share ≡ slot
       unfolding named decode
       slot-is = sym found

@@ -3,7 +3,7 @@ use Prim.Native.Nat.{ℕ, _*_, _%_}
 use mathlib.Core.Path.{_≡_, refl, sym, ap}
 use mathlib.Core.Bool.{false, not}
 use mathlib.Core.List.{List, [], _∷_}
-use Rattle.ranks.specs.Lists.{if_then_else_, mapWithIndex, mask, all}
+use Rattle.ranks.specs.Lists.{if_then_else_, mapWithIndex, mask, allTrue}
 use Rattle.ranks.specs.Position.{inQueue}
 use Rattle.ranks.specs.Table.{slice}
 use Rattle.records.specs.Layout.{slotOf}
@@ -38,7 +38,7 @@ module _ (t : Tables) (caller id : ℕ) (q : Queue) (read : q ≡ decodeQueue (s
   module _ (passed : 0 ≡ firstStatus ((not (usableQueue q caller id) ⇒ INVALID-ID) ∷ of-owner)) (queues′ pool′ : List ℕ)
       (cleared : decodePool pool′ ≡ mapWithIndex (λ b m. if inQueue (slotOf id) (m .position) then freeBuffer else m) (decodePool (t .pool))) where
     none : None ((not (usableQueue q caller id) ⇒ INVALID-ID) ∷ of-owner)
-    unfolding all
+    unfolding allTrue
     none = none-holds ((not (usableQueue q caller id) ⇒ INVALID-ID) ∷ of-owner) refl passed
 
     pub flush-done : decodeQueues queues′ ≡ mapWithIndex (atIndex (slotOf id) (withPending 0)) (decodeQueues (t .queues))

@@ -7,7 +7,7 @@ use mathlib.Core.Logic.{⊎-elim}
 use mathlib.Core.List.{List, [], _∷_}
 use lib.Dec.{eqb, leb, ltb}
 use borrow.Author.Tests.{eqb-true, lt-ltb, le-ltb}
-use Rattle.ranks.specs.Lists.{if_then_else_, mapWithIndex, minimum, count, all}
+use Rattle.ranks.specs.Lists.{if_then_else_, mapWithIndex, minimum, countTrue, allTrue}
 use Rattle.ranks.specs.Position.{positionAt, inQueue}
 use Rattle.ranks.specs.Steps.{inserted, takenOut, recordAt, Room}
 use Rattle.ranks.specs.Table.{slice, records}
@@ -40,9 +40,9 @@ module _ (s : State) (g : SoundFacts s) where
   -- at most 32 tasks wait in a queue
   pub waiters-bound : (slot : ℕ) → slot < 16 → queueAt s slot .waiters ≤ 32
   waiters-bound slot h =
-      let all : count (mapWithIndex (λ j w. inQueue slot (w .position)) (s .tasks)) ≡ queueAt s slot .waiters =
+      let as-many : countTrue (mapWithIndex (λ j w. inQueue slot (w .position)) (s .tasks)) ≡ queueAt s slot .waiters =
       counted {position = λ (w : Task). w .position} {a = freshTask 1} (record { long = g .sized .tasks; ranks = g .waiters slot h }) in
-      omega (arith, all, count-bound (mapWithIndex (λ j w. inQueue slot (w .position)) (s .tasks)), length-mapped (λ j w. inQueue slot (w .position)) (s .tasks), g .sized .tasks)
+      omega (arith, as-many, count-bound (mapWithIndex (λ j w. inQueue slot (w .position)) (s .tasks)), length-mapped (λ j w. inQueue slot (w .position)) (s .tasks), g .sized .tasks)
 
   -- a message in a buffer fits into a task record
   pub message-short : (b : ℕ) → b < 64 → bufferAt s b .messageLength ≤ 120
@@ -75,7 +75,7 @@ module _ (t : Tables) (caller id option ticks : ℕ) (q : Queue) (read : q ≡ d
 
     module _ (passed : 0 ≡ firstStatus ((not (usableQueue q caller id) ⇒ INVALID-ID) ∷ own-refusals)) where
       none-here : None ((not (usableQueue q caller id) ⇒ INVALID-ID) ∷ own-refusals)
-      unfolding all
+      unfolding allTrue
       none-here = none-holds ((not (usableQueue q caller id) ⇒ INVALID-ID) ∷ own-refusals) refl passed
 
       pub received-done : b < 64 → (n : ℕ) → n ≡ decodeBuffer (slice (b * 128) 128 (t .pool)) .messageLength

@@ -7,7 +7,7 @@ use mathlib.Core.List.{List, [], _∷_}
 use lib.Dec.{eqb, leb, ltb}
 use lib.ListN.{length}
 use borrow.Author.Tests.{lt-ltb, le-ltb, le-leb, leb-false}
-use Rattle.ranks.specs.Lists.{if_then_else_, mapWithIndex, first, all}
+use Rattle.ranks.specs.Lists.{if_then_else_, mapWithIndex, firstTrue, allTrue}
 use Rattle.ranks.specs.Position.{positionAt}
 use Rattle.ranks.specs.Steps.{inserted, takenOut, recordAt, Room}
 use Rattle.ranks.specs.Table.{slice, records}
@@ -58,7 +58,7 @@ module _ (t : Tables) (caller id : ℕ) (message : List ℕ) (front : Bool) (q :
 
   -- the first waiter and the free buffer that the code found
   module _ (k b share : ℕ) (waiter : k ≡ recordAt (λ w. w .position) (slotOf id) 0 (decodeTasks (t .tasks))) (own : share ≡ shareOfSlot (slotOf id))
-      (free : b ≡ first (mapWithIndex (isFreeOf share) (decodePool (t .pool)))) where
+      (free : b ≡ firstTrue (mapWithIndex (isFreeOf share) (decodePool (t .pool)))) where
     abbrev pub own-refusals : List Refusal
     own-refusals = (not (sizeAllowed q (length message)) ⇒ INVALID-SIZE) ∷ (leb 32 k && isFull q ⇒ TOO-MANY) ∷ (leb 32 k && leb 64 b ⇒ NO-BUFFER) ∷ []
 
@@ -68,7 +68,7 @@ module _ (t : Tables) (caller id : ℕ) (message : List ℕ) (front : Bool) (q :
 
     free-is : b ≡ freeBufferOf (decode t) (shareOfSlot (slotOf id))
     unfolding freeBufferOf decode
-    free-is = free ∙ ap (λ (p : ℕ). first (mapWithIndex (isFreeOf p) (decodePool (t .pool)))) own
+    free-is = free ∙ ap (λ (p : ℕ). firstTrue (mapWithIndex (isFreeOf p) (decodePool (t .pool)))) own
 
     nobody-is : leb 32 k ≡ not (hasWaiter (decode t) (slotOf id))
     nobody-is = none-there 32 k ∙ ap (λ (n : ℕ). not (ltb n 32)) waiter-is
@@ -83,7 +83,7 @@ module _ (t : Tables) (caller id : ℕ) (message : List ℕ) (front : Bool) (q :
 
     module _ (passed : 0 ≡ firstStatus ((not (usableQueue q caller id) ⇒ INVALID-ID) ∷ own-refusals)) where
       none-here : None ((not (usableQueue q caller id) ⇒ INVALID-ID) ∷ own-refusals)
-      unfolding all
+      unfolding allTrue
       none-here = none-holds ((not (usableQueue q caller id) ⇒ INVALID-ID) ∷ own-refusals) refl passed
 
       live : SoundFacts (decode t) → Live q

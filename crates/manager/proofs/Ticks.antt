@@ -9,7 +9,7 @@ use lib.Count.{ones}
 use lib.Dec.{eqb, leb}
 use lib.ListN.{length}
 use borrow.Author.Tests.{eqb-true}
-use Rattle.ranks.specs.Lists.{if_then_else_, mapWithIndex, mask, range}
+use Rattle.ranks.specs.Lists.{if_then_else_, mapWithIndex, mask, numbersFrom}
 use Rattle.ranks.specs.Steps.{takenOut}
 use Rattle.ranks.specs.Table.{slice}
 use Rattle.ranks.proofs.Tests.{both}
@@ -93,7 +93,7 @@ pub record TickedBelow (q₀ p w₀ q w : List ℕ) (t : ℕ) : Type 0 where
   pub queuesBytes : Slice q
   pub tasksBytes : Slice w
   pub facts : SoundFacts (decode (tables q p w))
-  pub rest : tickTasks (decode (tables q p w)) (range t (32 - t)) ≡ tickTasks (decode (tables q₀ p w₀)) (range 0 32)
+  pub rest : tickTasks (decode (tables q p w)) (numbersFrom t (32 - t)) ≡ tickTasks (decode (tables q₀ p w₀)) (numbersFrom 0 32)
 
 module _ (q₀ p w₀ : List ℕ) where
   pub none-ticked : sound (decode (tables q₀ p w₀)) ≡ true → Slice q₀ → Slice w₀ → TickedBelow q₀ p w₀ q₀ w₀ 0
@@ -110,7 +110,7 @@ module _ (q₀ p w₀ : List ℕ) where
   module _ (q w : List ℕ) (t : ℕ) (before : TickedBelow q₀ p w₀ q w t) where
     pub one-more-ticked : (q′ w′ : List ℕ) → t < 32 → length q′ ≡ length q → length w′ ≡ length w → Slice q′ → Slice w′
         → decode (tables q′ p w′) ≡ tickTask (decode (tables q p w)) t → TickedBelow q₀ p w₀ q′ w′ (t + 1)
-    unfolding range tickTasks
+    unfolding numbersFrom tickTasks
     one-more-ticked q′ w′ h lq lw bq bw step =
         let n : 32 - t ≡ suc (32 - (t + 1)) = omega arith in
         let m : t + 1 ≡ suc t = omega arith in
@@ -121,15 +121,15 @@ module _ (q₀ p w₀ : List ℕ) where
           tasksBytes = bw;
           facts = subst SoundFacts (sym step) (tickTask-sound (decode (tables q p w)) (before .facts) t h);
           rest =
-              ap₂ (λ (s : State) (k : ℕ). tickTasks s (range k (32 - (t + 1)))) step m
-              ∙ ap (λ (k : ℕ). tickTasks (decode (tables q p w)) (range t k)) (sym n) ∙ before .rest;
+              ap₂ (λ (s : State) (k : ℕ). tickTasks s (numbersFrom k (32 - (t + 1)))) step m
+              ∙ ap (λ (k : ℕ). tickTasks (decode (tables q p w)) (numbersFrom t k)) (sym n) ∙ before .rest;
         }
 
-    pub all-ticked : 32 ≤ t → decode (tables q p w) ≡ tickTasks (decode (tables q₀ p w₀)) (range 0 32)
-    unfolding range tickTasks
+    pub all-ticked : 32 ≤ t → decode (tables q p w) ≡ tickTasks (decode (tables q₀ p w₀)) (numbersFrom 0 32)
+    unfolding numbersFrom tickTasks
     all-ticked h =
         let n : 0 ≡ 32 - t = omega arith in
-        ap (λ (k : ℕ). tickTasks (decode (tables q p w)) (range t k)) n ∙ before .rest
+        ap (λ (k : ℕ). tickTasks (decode (tables q p w)) (numbersFrom t k)) n ∙ before .rest
 
     -- ---- The whole tick
 

@@ -3,7 +3,7 @@ ghost use mathlib.Core.Path.{_≡_};
 ghost use Prim.Native.Nat.{_+_, _*_, _<_};
 ghost use lib.ListN.{length};
 ghost use mathlib.Core.Bool.{true, not};
-ghost use Rattle.ranks.specs.Lists.{within, mapWithIndex, first, every};
+ghost use Rattle.ranks.specs.Lists.{within, mapWithIndex, firstTrue, every};
 ghost use Rattle.ranks.specs.Table.{slice};
 ghost use Rattle.records.specs.Bytes.{decodeQueue, decodeQueues};
 ghost use Rattle.specification.specs.Call.{call, create};
@@ -39,7 +39,7 @@ fn is_free_slot(queues: &[u8], share: usize, slot: usize) -> bool
 // The lowest such slot, or 16.
 fn free_slot(queues: &[u8], share: usize) -> usize
     requires { ⌜ length (now queues) ≡ 256 ⌝ }
-    ensures { λ r. ⌜ r ≡ first (mapWithIndex (isFreeSlot share) (decodeQueues (now (queues .entry)))) ⌝ }
+    ensures { λ r. ⌜ r ≡ firstTrue (mapWithIndex (isFreeSlot share) (decodeQueues (now (queues .entry)))) ⌝ }
 {
     let mut i = 0;
     while i < 16 {
@@ -84,7 +84,7 @@ fn refusal(
     size: u32,
     attributes: u32,
 ) -> u8
-    requires { ⌜ (length (now queues) ≡ 256) × ((share < 4) × ((slot ≡ first (mapWithIndex (isFreeSlot share) (decodeQueues (now queues)))) × (every (λ i q. soundQueue q) (decodeQueues (now queues)) ≡ true))) ⌝ }
+    requires { ⌜ (length (now queues) ≡ 256) × ((share < 4) × ((slot ≡ firstTrue (mapWithIndex (isFreeSlot share) (decodeQueues (now queues)))) × (every (λ i q. soundQueue q) (decodeQueues (now queues)) ≡ true))) ⌝ }
     ensures { λ r. ⌜ r ≡ firstStatus (refusals (onlyQueues (now (queues .entry))) share name limit size attributes) ⌝ }
 {
     if name == 0 {

@@ -10,7 +10,7 @@ use lib.Dec.{eqb}
 use lib.ListN.{length, getD, set, take, drop, length-map, length-set, List·getD-eq-default}
 use lib.Seq.{ext-getD, getD-at, getD-set-same, getD-set-other, length-take-le}
 use borrow.Author.Tests.{eqb-true, eq-eqb, ne-eqb}
-use Rattle.ranks.specs.Lists.{mapWithIndex, count, first, range, filter}
+use Rattle.ranks.specs.Lists.{mapWithIndex, countTrue, firstTrue, numbersFrom, keepIf}
 use Rattle.ranks.specs.Position.{Position, inQueue, standsAt}
 use Rattle.ranks.specs.Steps.{inserted, takenOut, recordAt, byRank}
 use Rattle.ranks.proofs.Tests.{both, and, same?, lt-or-ge}
@@ -46,41 +46,41 @@ module _ {A : Type 0} where
   -- ---- filter
 
   -- an entry that fails is not kept, wherever it stands
-  filter-put : (f : A → Bool) (l : List A) (k : ℕ) (t : A) → f t ≡ false → filter f (take k l ++ t ∷ drop k l) ≡ filter f l
-  unfolding filter
-  filter-put f l zero t e = rw (e, filter)
-  filter-put f [] (suc k) t e = rw (e, filter)
+  filter-put : (f : A → Bool) (l : List A) (k : ℕ) (t : A) → f t ≡ false → keepIf f (take k l ++ t ∷ drop k l) ≡ keepIf f l
+  unfolding keepIf
+  filter-put f l zero t e = rw (e, keepIf)
+  filter-put f [] (suc k) t e = rw (e, keepIf)
   filter-put f (x ∷ l) (suc k) t e = ap (λ (r : List A). elim (f x) [ true ↦ x ∷ r | false ↦ r ]) (filter-put f l k t e)
 
   -- two tests that say the same of every entry keep the same
-  pub filter-cong : (f g : A → Bool) (l : List A) (d : A) → ((k : ℕ) → k < length l → f (getD l k d) ≡ g (getD l k d)) → filter f l ≡ filter g l
-  unfolding filter
+  pub filter-cong : (f g : A → Bool) (l : List A) (d : A) → ((k : ℕ) → k < length l → f (getD l k d) ≡ g (getD l k d)) → keepIf f l ≡ keepIf g l
+  unfolding keepIf
   filter-cong f g [] d h = refl
   filter-cong f g (x ∷ l) d h =
-      let rest : filter f l ≡ filter g l = filter-cong f g l d (λ k lt. h (suc k) (omega arith)) in
+      let rest : keepIf f l ≡ keepIf g l = filter-cong f g l d (λ k lt. h (suc k) (omega arith)) in
       λ i. elim (h 0 (omega arith) i) [ true ↦ x ∷ rest i | false ↦ rest i ]
 
   -- where every entry passes, all are kept
-  pub filter-all : (f : A → Bool) (l : List A) (d : A) → ((k : ℕ) → k < length l → f (getD l k d) ≡ true) → filter f l ≡ l
-  unfolding filter
+  pub filter-all : (f : A → Bool) (l : List A) (d : A) → ((k : ℕ) → k < length l → f (getD l k d) ≡ true) → keepIf f l ≡ l
+  unfolding keepIf
   filter-all f [] d h = refl
-  filter-all f (x ∷ l) d h = rw (h 0 (omega arith), filter) (ap (λ (r : List A). x ∷ r) (filter-all f l d (λ k lt. h (suc k) (omega arith))))
+  filter-all f (x ∷ l) d h = rw (h 0 (omega arith), keepIf) (ap (λ (r : List A). x ∷ r) (filter-all f l d (λ k lt. h (suc k) (omega arith))))
 
   -- what two tests in turn keep
-  pub filter-filter : (f g : A → Bool) (l : List A) → filter f (filter g l) ≡ filter (λ x. g x && f x) l
-  unfolding filter
+  pub filter-filter : (f g : A → Bool) (l : List A) → keepIf f (keepIf g l) ≡ keepIf (λ x. g x && f x) l
+  unfolding keepIf
   filter-filter f g [] = refl
   filter-filter f g (x ∷ l) = go (g x) (filter-filter f g l)
     where
-      go : (b : Bool) → filter f (filter g l) ≡ filter (λ x. g x && f x) l
-          → filter f (elim b [ true ↦ x ∷ filter g l | false ↦ filter g l ])
-          ≡ (elim (b && f x) [ true ↦ x ∷ filter (λ x. g x && f x) l | false ↦ filter (λ x. g x && f x) l ])
+      go : (b : Bool) → keepIf f (keepIf g l) ≡ keepIf (λ x. g x && f x) l
+          → keepIf f (elim b [ true ↦ x ∷ keepIf g l | false ↦ keepIf g l ])
+          ≡ (elim (b && f x) [ true ↦ x ∷ keepIf (λ x. g x && f x) l | false ↦ keepIf (λ x. g x && f x) l ])
       go true ih = ap (λ (r : List A). elim (f x) [ true ↦ x ∷ r | false ↦ r ]) ih
       go false ih = ih
 
 -- one more test is passed
-count-set : (bs : List Bool) (k : ℕ) → k < length bs → getD bs k false ≡ false → count (set bs k true) ≡ suc (count bs)
-unfolding count
+count-set : (bs : List Bool) (k : ℕ) → k < length bs → getD bs k false ≡ false → countTrue (set bs k true) ≡ suc (countTrue bs)
+unfolding countTrue
 count-set [] k h e = absurd (not-suc-le-zero h)
 count-set (true ∷ bs) zero h e = absurd (true≢false e)
 count-set (false ∷ bs) zero h e = refl
@@ -170,9 +170,9 @@ module _ {A : Type 0} {position : A → Position} {a : A} {N slot n : ℕ} {xs :
       let bs : List Bool = mapWithIndex (λ j x. standsAt slot k (position x)) xs in
       let at : (i : ℕ) → i < N → getD bs i false ≡ standsAt slot k (position (getD xs i a)) =
       λ i lt. at-mapped (λ j x. standsAt slot k (position x)) xs i a false (omega (arith, table .long)) in
-      let le : first bs ≤ j = first-least bs j (at j h ∙ and (eq-eqb _ _ q) (eq-eqb _ _ e)) in
-      let lt : first bs < N = omega arith in
-      let (q′, e′) = both _ _ (sym (at (first bs) lt) ∙ first-true bs (omega (arith, table .long, length-mapped (λ j x. standsAt slot k (position x)) xs))) in
+      let le : firstTrue bs ≤ j = first-least bs j (at j h ∙ and (eq-eqb _ _ q) (eq-eqb _ _ e)) in
+      let lt : firstTrue bs < N = omega arith in
+      let (q′, e′) = both _ _ (sym (at (firstTrue bs) lt) ∙ first-true bs (omega (arith, table .long, length-mapped (λ j x. standsAt slot k (position x)) xs))) in
       stands-one (table .ranks) (lt, eqb-true _ _ q′, eqb-true _ _ e′) (h, q, e)
 
   -- the record at the rank of record j is j
@@ -183,12 +183,12 @@ module _ {A : Type 0} {position : A → Position} {a : A} {N slot n : ℕ} {xs :
   pub at-by-rank : (k d : ℕ) → k < n → getD (byRank position slot n xs) k d ≡ recordAt position slot k xs
   unfolding byRank
   at-by-rank k d h =
-      at-map (λ r. recordAt position slot r xs) (range 0 n) k 0 d (omega (arith, length-range 0 n))
+      at-map (λ r. recordAt position slot r xs) (numbersFrom 0 n) k 0 d (omega (arith, length-range 0 n))
       ∙ ap (λ (r : ℕ). recordAt position slot r xs) (at-range 0 n k 0 h ∙ zero-add k)
 
   pub length-by-rank : length (byRank position slot n xs) ≡ n
   unfolding byRank
-  length-by-rank = length-map (range 0 n) _ ∙ length-range 0 n
+  length-by-rank = length-map (numbersFrom 0 n) _ ∙ length-range 0 n
 
   pub by-rank-listed : Listed N (positions position a xs) slot n (byRank position slot n xs)
   by-rank-listed =
@@ -222,9 +222,9 @@ module _ {A : Type 0} (xs : List A) (a : A) (slot : ℕ) where
 
   -- one less with record t taken out
   count-taken : (P : ℕ → Position) (t : ℕ) → t < length xs → P t .queue ≡ suc slot
-      → count (members P) ≡ suc (count (members (λ j. takenOut t slot (P t .rank) j (P j))))
+      → countTrue (members P) ≡ suc (countTrue (members (λ j. takenOut t slot (P t .rank) j (P j))))
   count-taken P t here q =
-      ap count (sym (is-mapped _ xs (set (members P′) t true) a false (length-set (members P′) t true ∙ length-members P′) (λ i lt. same i lt (same? i t))))
+      ap countTrue (sym (is-mapped _ xs (set (members P′) t true) a false (length-set (members P′) t true ∙ length-members P′) (λ i lt. same i lt (same? i t))))
       ∙ count-set (members P′) t (omega (arith, length-members P′))
       (at-mapped _ xs t a false here ∙ ap (inQueue slot) (out-itself t slot (P t .rank) (P t)) ∙ ne-eqb 0 (suc slot) (λ z. omega arith))
     where
@@ -237,7 +237,7 @@ module _ {A : Type 0} (xs : List A) (a : A) (slot : ℕ) where
           getD-set-other (members P′) t i true false ne ∙ at-mapped _ xs i a false lt
           ∙ ap (λ (m : ℕ). eqb m (suc slot)) (out-moved t slot (P t .rank) i (P i) ne .0)
 
-  count-members : (n : ℕ) (P : ℕ → Position) → Ranked (length xs) P slot n → count (members P) ≡ n
+  count-members : (n : ℕ) (P : ℕ → Position) → Ranked (length xs) P slot n → countTrue (members P) ≡ n
   count-members zero P r = count-none (members P) (λ i. none i (lt-or-ge i (length xs)))
     where
       none : (i : ℕ) → (i < length xs) ⊎ (length xs ≤ i) → getD (members P) i false ≡ false
@@ -249,9 +249,9 @@ module _ {A : Type 0} (xs : List A) (a : A) (slot : ℕ) where
       count-taken P t here q ∙ ap suc (count-members n _ (subst (Ranked (length xs) _ slot) fewer (take-out (length xs) P slot (suc n) t here q r)))
 
 pub counted : {A : Type 0} {position : A → Position} {a : A} {N slot n : ℕ} {xs : List A} → RankedTable position a N slot n xs
-    → count (mapWithIndex (λ j x. inQueue slot (position x)) xs) ≡ n
+    → countTrue (mapWithIndex (λ j x. inQueue slot (position x)) xs) ≡ n
 counted {A} {position} {a} {N} {slot} {n} {xs} table =
-    ap count (mapped-cong _ _ xs xs a a false refl (λ i h. refl))
+    ap countTrue (mapped-cong _ _ xs xs a a false refl (λ i h. refl))
     ∙ count-members xs a slot n (positions position a xs) (subst (λ (m : ℕ). Ranked m (positions position a xs) slot n) (sym (table .long)) (table .ranks))
 
 -- ---- What the steps make of the list
@@ -314,12 +314,12 @@ module _ {A : Type 0} {position : A → Position} {a : A} {N slot n : ℕ} {xs :
         let z : position (getD xs′ t a) .queue ≡ 0 = ap (λ (p : Position). p .queue) (to t (s .0) ∙ out-itself t slot k (position (getD xs t a))) in
         omega arith
 
-    pub taken-out-list : byRank position slot (n - 1) xs′ ≡ filter (λ j. not (eqb j t)) (byRank position slot n xs)
+    pub taken-out-list : byRank position slot (n - 1) xs′ ≡ keepIf (λ j. not (eqb j t)) (byRank position slot n xs)
     taken-out-list =
         let l : List ℕ = byRank position slot (n - 1) xs′ in
         let f : ℕ → Bool = λ j. not (eqb j t) in
         sym
-        (ap (filter f) taken-from ∙ filter-put f l k t (ap not (eq-eqb t t refl))
+        (ap (keepIf f) taken-from ∙ filter-put f l k t (ap not (eq-eqb t t refl))
         ∙ filter-all f l 0 (λ i h. ap not (ne-eqb (getD l i 0) t (taken-gone i (omega (arith, length-by-rank taken-table))))))
 
   pub taken-first : (t : ℕ) → Stands N (positions position a xs) slot 0 t → Changed position a N xs xs′ (takenOut t slot 0)

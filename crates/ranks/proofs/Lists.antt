@@ -9,7 +9,7 @@ use lib.ListN.{length, getD, set, drop, length-set}
 use lib.Seq.{ext-getD, drop-cons, drop-length, getD-set-same, getD-set-other}
 use native.Mathlib.Numerals.{add-one}
 use mathlib.Core.Logic.{⊎-elim}
-use Rattle.ranks.specs.Lists.{if_then_else_, mapFromIndex, mapWithIndex, all, allZero, count, first, mask, bit, range, sum, minimum}
+use Rattle.ranks.specs.Lists.{if_then_else_, mapFromIndex, mapWithIndex, allTrue, allZero, countTrue, firstTrue, mask, bit, numbersFrom, sumOf, minimum}
 use Rattle.ranks.proofs.Tests.{same?, lt-or-ge}
 use lib.Dec.{eqb, leb, ltb}
 use borrow.Author.Tests.{leb-true, leb-false, lt-ltb, le-ltb}
@@ -48,24 +48,24 @@ mapped-cong f g l l′ a a′ b e h =
 
 -- ---- all
 
-pub all-at : (bs : List Bool) → all bs ≡ true → (i : ℕ) → i < length bs → getD bs i false ≡ true
-unfolding all
+pub all-at : (bs : List Bool) → allTrue bs ≡ true → (i : ℕ) → i < length bs → getD bs i false ≡ true
+unfolding allTrue
 all-at [] e i h = absurd (not-suc-le-zero h)
 all-at (true ∷ bs) e zero h = refl
 all-at (true ∷ bs) e (suc i) h = all-at bs e i (le-of-suc-le-suc h)
 all-at (false ∷ bs) e i h = absurd (false≢true e)
 
-pub all-from : (bs : List Bool) → ((i : ℕ) → i < length bs → getD bs i false ≡ true) → all bs ≡ true
-unfolding all
+pub all-from : (bs : List Bool) → ((i : ℕ) → i < length bs → getD bs i false ≡ true) → allTrue bs ≡ true
+unfolding allTrue
 all-from [] h = refl
 all-from (true ∷ bs) h = all-from bs (λ i lt. h (suc i) (omega arith))
 all-from (false ∷ bs) h = h 0 (omega arith)
 
 module _ {A : Type 0} (f : ℕ → A → Bool) (l : List A) (a : A) where
-  pub every-at : all (mapWithIndex f l) ≡ true → (i : ℕ) → i < length l → f i (getD l i a) ≡ true
+  pub every-at : allTrue (mapWithIndex f l) ≡ true → (i : ℕ) → i < length l → f i (getD l i a) ≡ true
   every-at e i h = sym (at-mapped f l i a false h) ∙ all-at (mapWithIndex f l) e i (subst (λ (n : ℕ). i < n) (sym (length-mapped f l)) h)
 
-  pub every-from : ((i : ℕ) → i < length l → f i (getD l i a) ≡ true) → all (mapWithIndex f l) ≡ true
+  pub every-from : ((i : ℕ) → i < length l → f i (getD l i a) ≡ true) → allTrue (mapWithIndex f l) ≡ true
   every-from h =
       all-from (mapWithIndex f l)
       (λ i lt. let lt′ : i < length l = subst (λ (n : ℕ). i < n) (length-mapped f l) lt in at-mapped f l i a false lt′ ∙ h i lt′)
@@ -75,38 +75,38 @@ abbrev pub Holds : List Bool → Type 0
 Holds [] = Unit {0}
 Holds (b ∷ bs) = (b ≡ true) × Holds bs
 
-pub holds : (bs : List Bool) → all bs ≡ true → Holds bs
-unfolding all
+pub holds : (bs : List Bool) → allTrue bs ≡ true → Holds bs
+unfolding allTrue
 holds [] e = tt
 holds (true ∷ bs) e = (refl, holds bs e)
 holds (false ∷ bs) e = absurd (false≢true e)
 
-pub held : (bs : List Bool) → Holds bs → all bs ≡ true
-unfolding all
+pub held : (bs : List Bool) → Holds bs → allTrue bs ≡ true
+unfolding allTrue
 held [] h = refl
 held (true ∷ bs) h = held bs (h .1)
 held (false ∷ bs) h = h .0
 
 -- ---- first
 
-pub first-true : (bs : List Bool) → first bs < length bs → getD bs (first bs) false ≡ true
-unfolding first
+pub first-true : (bs : List Bool) → firstTrue bs < length bs → getD bs (firstTrue bs) false ≡ true
+unfolding firstTrue
 first-true [] h = absurd (not-suc-le-zero h)
 first-true (true ∷ bs) h = refl
 first-true (false ∷ bs) h = first-true bs (le-of-suc-le-suc h)
 
-pub first-least : (bs : List Bool) (i : ℕ) → getD bs i false ≡ true → first bs ≤ i
-unfolding first
+pub first-least : (bs : List Bool) (i : ℕ) → getD bs i false ≡ true → firstTrue bs ≤ i
+unfolding firstTrue
 first-least [] i e = absurd (false≢true e)
 first-least (true ∷ bs) i e = omega arith
 first-least (false ∷ bs) zero e = absurd (false≢true e)
-first-least (false ∷ bs) (suc i) e = let ih : first bs ≤ i = first-least bs i e in omega arith
+first-least (false ∷ bs) (suc i) e = let ih : firstTrue bs ≤ i = first-least bs i e in omega arith
 
-pub first-bound : (bs : List Bool) → first bs ≤ length bs
-unfolding first
+pub first-bound : (bs : List Bool) → firstTrue bs ≤ length bs
+unfolding firstTrue
 first-bound [] = omega arith
 first-bound (true ∷ bs) = omega arith
-first-bound (false ∷ bs) = let ih : first bs ≤ length bs = first-bound bs in omega arith
+first-bound (false ∷ bs) = let ih : firstTrue bs ≤ length bs = first-bound bs in omega arith
 
 -- ---- mask
 
@@ -125,14 +125,14 @@ bit-mask (false ∷ bs) (suc t) = let e : (2 * mask bs) / 2 ≡ mask bs = omega 
 
 -- ---- count
 
-pub count-none : (bs : List Bool) → ((i : ℕ) → getD bs i false ≡ false) → count bs ≡ 0
-unfolding count
+pub count-none : (bs : List Bool) → ((i : ℕ) → getD bs i false ≡ false) → countTrue bs ≡ 0
+unfolding countTrue
 count-none [] h = refl
 count-none (true ∷ bs) h = absurd (true≢false (h 0))
 count-none (false ∷ bs) h = count-none bs (λ i. h (suc i))
 
-pub none-count : (bs : List Bool) → count bs ≡ 0 → (i : ℕ) → getD bs i false ≡ false
-unfolding count
+pub none-count : (bs : List Bool) → countTrue bs ≡ 0 → (i : ℕ) → getD bs i false ≡ false
+unfolding countTrue
 none-count [] e i = refl
 none-count (true ∷ bs) e i = absurd (let z : 1 ≤ 0 = omega arith in not-suc-le-zero z)
 none-count (false ∷ bs) e zero = refl
@@ -144,8 +144,8 @@ pub record OnlyOne (bs : List Bool) : Type 0 where
   pub passes : getD bs index false ≡ true
   pub only : (j : ℕ) → getD bs j false ≡ true → j ≡ index
 
-pub count-one : (bs : List Bool) → count bs ≡ 1 → OnlyOne bs
-unfolding count
+pub count-one : (bs : List Bool) → countTrue bs ≡ 1 → OnlyOne bs
+unfolding countTrue
 count-one [] e = absurd (let z : 1 ≤ 0 = omega arith in not-suc-le-zero z)
 count-one (true ∷ bs) e =
     record { index = 0; passes = refl; only = λ j p. go j p }
@@ -161,8 +161,8 @@ count-one (false ∷ bs) e =
     go r zero p = absurd (false≢true p)
     go r (suc j) p = ap suc (r .only j p)
 
-pub one-count : (bs : List Bool) (i : ℕ) → getD bs i false ≡ true → ((j : ℕ) → getD bs j false ≡ true → j ≡ i) → count bs ≡ 1
-unfolding count
+pub one-count : (bs : List Bool) (i : ℕ) → getD bs i false ≡ true → ((j : ℕ) → getD bs j false ≡ true → j ≡ i) → countTrue bs ≡ 1
+unfolding countTrue
 one-count [] i p only = absurd (false≢true p)
 one-count (true ∷ bs) i p only = ap suc (count-none bs (λ j. none j (getD bs j false) refl))
   where
@@ -174,13 +174,13 @@ one-count (false ∷ bs) (suc i) p only = one-count bs i p (λ j q. let e : suc 
 
 -- ---- from
 
-pub length-range : (i n : ℕ) → length (range i n) ≡ n
-unfolding range
+pub length-range : (i n : ℕ) → length (numbersFrom i n) ≡ n
+unfolding numbersFrom
 length-range i zero = refl
 length-range i (suc n) = ap suc (length-range (suc i) n)
 
-pub at-range : (i n k d : ℕ) → k < n → getD (range i n) k d ≡ i + k
-unfolding range
+pub at-range : (i n k d : ℕ) → k < n → getD (numbersFrom i n) k d ≡ i + k
+unfolding numbersFrom
 at-range i zero k d h = absurd (not-suc-le-zero h)
 at-range i (suc n) zero d h = sym (add-zero i)
 at-range i (suc n) (suc k) d h = at-range (suc i) n k d (le-of-suc-le-suc h) ∙ suc-add i k ∙ sym (add-suc i k)
@@ -189,15 +189,15 @@ at-range i (suc n) (suc k) d h = at-range (suc i) n k d (le-of-suc-le-suc h) ∙
 
 -- two lists that differ at one place, by n
 pub sum-at : (l l′ : List ℕ) (k n : ℕ) → k < length l → length l ≡ length l′ → ((i : ℕ) → i < length l → (i ≡ k → ⊥) → getD l i 0 ≡ getD l′ i 0)
-    → getD l′ k 0 ≡ getD l k 0 + n → sum l′ ≡ sum l + n
-unfolding sum
+    → getD l′ k 0 ≡ getD l k 0 + n → sumOf l′ ≡ sumOf l + n
+unfolding sumOf
 sum-at [] l′ k n h e o d = absurd (not-suc-le-zero h)
 sum-at (x ∷ l) [] k n h e o d = absurd (let z : 1 ≤ 0 = omega arith in not-suc-le-zero z)
 sum-at (x ∷ l) (y ∷ l′) zero n h e o d =
-    let z : sum l ≡ sum l′ = ap sum (ext-getD 0 l l′ (omega arith) (λ i h. o (suc i) (omega arith) (λ z. omega arith))) in
+    let z : sumOf l ≡ sumOf l′ = ap sumOf (ext-getD 0 l l′ (omega arith) (λ i h. o (suc i) (omega arith) (λ z. omega arith))) in
     omega arith
 sum-at (x ∷ l) (y ∷ l′) (suc k) n h e o d =
-    let ih : sum l′ ≡ sum l + n = sum-at l l′ k n (omega arith) (omega arith) (λ i h ne. o (suc i) (omega arith) (λ z. ne (omega arith))) d in
+    let ih : sumOf l′ ≡ sumOf l + n = sum-at l l′ k n (omega arith) (omega arith) (λ i h ne. o (suc i) (omega arith) (λ z. ne (omega arith))) d in
     let z : x ≡ y = o 0 (omega arith) (λ z. omega arith) in
     omega arith
 
@@ -231,21 +231,21 @@ minimum-is n (m ∷ l) h = go (leb m (minimum n l)) refl (minimum-is n l)
         (suc i, omega arith, q ∙ omega arith)
 
 -- the search for the first, from record i on
-module _ (bs : List Bool) (i : ℕ) (inv : first bs ≡ i + first (drop i bs)) where
-  pub first-more : i < length bs → getD bs i false ≡ false → first bs ≡ i + 1 + first (drop (i + 1) bs)
-  unfolding first
+module _ (bs : List Bool) (i : ℕ) (inv : firstTrue bs ≡ i + firstTrue (drop i bs)) where
+  pub first-more : i < length bs → getD bs i false ≡ false → firstTrue bs ≡ i + 1 + firstTrue (drop (i + 1) bs)
+  unfolding firstTrue
   first-more h e =
-      inv ∙ ap (λ (l : List Bool). i + first l) (drop-cons bs i false h) ∙ ap (λ (b : Bool). i + first (b ∷ drop (suc i) bs)) e
+      inv ∙ ap (λ (l : List Bool). i + firstTrue l) (drop-cons bs i false h) ∙ ap (λ (b : Bool). i + firstTrue (b ∷ drop (suc i) bs)) e
       ∙ rw add-one (omega arith)
 
-  pub first-here : i < length bs → getD bs i false ≡ true → i ≡ first bs
-  unfolding first
+  pub first-here : i < length bs → getD bs i false ≡ true → i ≡ firstTrue bs
+  unfolding firstTrue
   first-here h e =
-      sym (inv ∙ ap (λ (l : List Bool). i + first l) (drop-cons bs i false h) ∙ ap (λ (b : Bool). i + first (b ∷ drop (suc i) bs)) e ∙ add-zero i)
+      sym (inv ∙ ap (λ (l : List Bool). i + firstTrue l) (drop-cons bs i false h) ∙ ap (λ (b : Bool). i + firstTrue (b ∷ drop (suc i) bs)) e ∙ add-zero i)
 
-  pub first-none : i ≡ length bs → i ≡ first bs
-  unfolding first
-  first-none h = sym (inv ∙ ap (λ (k : ℕ). i + first (drop k bs)) h ∙ ap (λ (l : List Bool). i + first l) (drop-length bs) ∙ add-zero i)
+  pub first-none : i ≡ length bs → i ≡ firstTrue bs
+  unfolding firstTrue
+  first-none h = sym (inv ∙ ap (λ (k : ℕ). i + firstTrue (drop k bs)) h ∙ ap (λ (l : List Bool). i + firstTrue l) (drop-length bs) ∙ add-zero i)
 
 -- ---- a table changed record by record from the front
 
@@ -297,27 +297,27 @@ module _ {A : Type 0} (f : ℕ → A → A) (l : List A) (d : A) where
 
 -- ---- the search for a test that fails, from record i on
 
-module _ (bs : List Bool) (i : ℕ) (inv : all bs ≡ all (drop i bs)) where
-  pub all-more : i < length bs → getD bs i false ≡ true → all bs ≡ all (drop (i + 1) bs)
-  unfolding all
+module _ (bs : List Bool) (i : ℕ) (inv : allTrue bs ≡ allTrue (drop i bs)) where
+  pub all-more : i < length bs → getD bs i false ≡ true → allTrue bs ≡ allTrue (drop (i + 1) bs)
+  unfolding allTrue
   all-more h e =
-      inv ∙ ap all (drop-cons bs i false h) ∙ ap (λ (b : Bool). all (b ∷ drop (suc i) bs)) e ∙ ap (λ (k : ℕ). all (drop k bs)) (sym (add-one i))
+      inv ∙ ap allTrue (drop-cons bs i false h) ∙ ap (λ (b : Bool). allTrue (b ∷ drop (suc i) bs)) e ∙ ap (λ (k : ℕ). allTrue (drop k bs)) (sym (add-one i))
 
-  pub all-stop : i < length bs → getD bs i false ≡ false → false ≡ all bs
-  unfolding all
-  all-stop h e = sym (inv ∙ ap all (drop-cons bs i false h) ∙ ap (λ (b : Bool). all (b ∷ drop (suc i) bs)) e)
+  pub all-stop : i < length bs → getD bs i false ≡ false → false ≡ allTrue bs
+  unfolding allTrue
+  all-stop h e = sym (inv ∙ ap allTrue (drop-cons bs i false h) ∙ ap (λ (b : Bool). allTrue (b ∷ drop (suc i) bs)) e)
 
-  pub all-end : i ≡ length bs → true ≡ all bs
-  unfolding all
-  all-end h = sym (inv ∙ ap (λ (k : ℕ). all (drop k bs)) h ∙ ap all (drop-length bs))
+  pub all-end : i ≡ length bs → true ≡ allTrue bs
+  unfolding allTrue
+  all-end h = sym (inv ∙ ap (λ (k : ℕ). allTrue (drop k bs)) h ∙ ap allTrue (drop-length bs))
 
-pub all-cons : (b : Bool) (bs : List Bool) → all (b ∷ bs) ≡ b && all bs
-unfolding all
+pub all-cons : (b : Bool) (bs : List Bool) → allTrue (b ∷ bs) ≡ b && allTrue bs
+unfolding allTrue
 all-cons true bs = refl
 all-cons false bs = refl
 
-pub all-nil : all [] ≡ true
-unfolding all
+pub all-nil : allTrue [] ≡ true
+unfolding allTrue
 all-nil = refl
 
 pub zeros-cons : (n : ℕ) (ns : List ℕ) → allZero (n ∷ ns) ≡ eqb n 0 && allZero ns

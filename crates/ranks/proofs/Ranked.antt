@@ -8,7 +8,7 @@ use mathlib.Core.List.{List, [], _∷_}
 use lib.Dec.{eqb, ltb}
 use lib.ListN.{length, getD}
 use borrow.Author.Tests.{eqb-true, ltb-true, lt-ltb, eq-eqb}
-use Rattle.ranks.specs.Lists.{mapWithIndex, all, count, range, _implies_}
+use Rattle.ranks.specs.Lists.{mapWithIndex, allTrue, countTrue, numbersFrom, _implies_}
 use Rattle.ranks.specs.Position.{Position, noQueue, inQueue, standsAt}
 use Rattle.ranks.specs.Steps.{ranked}
 use Rattle.ranks.proofs.Tests.{both, and}
@@ -48,8 +48,8 @@ module _ (slot n : ℕ) (ps : List Position) where
   unfolding ranked
   from-ranked e = record { below = below; some = some; one = one }
     where
-      h : (all (mapWithIndex (λ j p. inQueue slot p implies ltb (p .rank) n) ps) ≡ true)
-          × (all (mapWithIndex (λ i r. eqb (count (tests r)) 1) (range 0 n)) ≡ true)
+      h : (allTrue (mapWithIndex (λ j p. inQueue slot p implies ltb (p .rank) n) ps) ≡ true)
+          × (allTrue (mapWithIndex (λ i r. eqb (countTrue (tests r)) 1) (numbersFrom 0 n)) ≡ true)
       h = both _ _ e
 
       below : (j : ℕ) → j < length ps → getD ps j noQueue .queue ≡ suc slot → getD ps j noQueue .rank < n
@@ -59,8 +59,8 @@ module _ (slot n : ℕ) (ps : List Position) where
       only r lt =
           count-one (tests r)
           (eqb-true _ _
-          (subst (λ (k : ℕ). eqb (count (tests k)) 1 ≡ true) (at-range 0 n r 0 lt ∙ zero-add r)
-          (every-at (λ i r. eqb (count (tests r)) 1) (range 0 n) 0 (h .1) r (subst (λ (k : ℕ). r < k) (sym (length-range 0 n)) lt))))
+          (subst (λ (k : ℕ). eqb (countTrue (tests k)) 1 ≡ true) (at-range 0 n r 0 lt ∙ zero-add r)
+          (every-at (λ i r. eqb (countTrue (tests r)) 1) (numbersFrom 0 n) 0 (h .1) r (subst (λ (k : ℕ). r < k) (sym (length-range 0 n)) lt))))
 
       some : (r : ℕ) → r < n → (j : ℕ) × (j < length ps) × (getD ps j noQueue .queue ≡ suc slot) × (getD ps j noQueue .rank ≡ r)
       some r lt = let o = only r lt in let (a, b, c) = stands r (o .index) (o .passes) in (o .index, a, b, c)
@@ -76,12 +76,12 @@ module _ (slot n : ℕ) (ps : List Position) where
   to-ranked r =
       and
       (every-from _ ps noQueue (λ j lt. implying _ _ (λ q. lt-ltb _ _ (r .below j lt (eqb-true _ _ q)))))
-      (every-from (λ i k. eqb (count (tests k)) 1) (range 0 n) 0
+      (every-from (λ i k. eqb (countTrue (tests k)) 1) (numbersFrom 0 n) 0
       (λ i lt.
       let lt′ : i < n = subst (λ (k : ℕ). i < k) (length-range 0 n) lt in
-      subst (λ (k : ℕ). eqb (count (tests k)) 1 ≡ true) (sym (at-range 0 n i 0 lt′ ∙ zero-add i)) (eq-eqb _ _ (once i lt′))))
+      subst (λ (k : ℕ). eqb (countTrue (tests k)) 1 ≡ true) (sym (at-range 0 n i 0 lt′ ∙ zero-add i)) (eq-eqb _ _ (once i lt′))))
     where
-      once : (k : ℕ) → k < n → count (tests k) ≡ 1
+      once : (k : ℕ) → k < n → countTrue (tests k) ≡ 1
       once k lt =
           let (j, hj, q, e) = r .some k lt in
           one-count (tests k) j (passes k j hj q e)

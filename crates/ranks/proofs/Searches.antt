@@ -7,19 +7,19 @@ use mathlib.Core.Path.{_≡_, refl, sym, ap, _∙_}
 use mathlib.Core.Bool.{Bool, true, false, not}
 use lib.ListN.{length, getD, drop}
 use borrow.Author.Tests.{not-true, not-false}
-use Rattle.ranks.specs.Lists.{mapWithIndex, all, first, every, findIndex}
+use Rattle.ranks.specs.Lists.{mapWithIndex, allTrue, firstTrue, every, findIndex}
 use Rattle.ranks.proofs.Lists.{at-mapped, length-mapped, first-more, first-here, first-none, all-more, all-stop, all-end}
 
 -- Of the n records none below `i` passes.
 pub record NoneBelow {A : Type 0} (test : ℕ → A → Bool) (l : List A) (n i : ℕ) : Type 0 where
   pub bound : i ≤ n
-  pub so-far : findIndex test l ≡ i + first (drop i (mapWithIndex test l))
+  pub so-far : findIndex test l ≡ i + firstTrue (drop i (mapWithIndex test l))
 
 -- Of the n records all below `i` pass, and the answer is still that they do.
 pub record AllBelow {A : Type 0} (test : ℕ → A → Bool) (l : List A) (n : ℕ) (good : Bool) (i : ℕ) : Type 0 where
   pub bound : i ≤ n
   pub answer : good ≡ true
-  pub so-far : every test l ≡ all (drop i (mapWithIndex test l))
+  pub so-far : every test l ≡ allTrue (drop i (mapWithIndex test l))
 
 -- what the code answers of record i, which it reads as x
 said : {A : Type 0} (test : ℕ → A → Bool) (l : List A) (i : ℕ) (d : A) {x : A} {r b : Bool} → i < length l → getD l i d ≡ x → r ≡ test i x → r ≡ b

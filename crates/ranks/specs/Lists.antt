@@ -24,27 +24,27 @@ unfoldable pub mapWithIndex : {A B : Type 0} → (ℕ → A → B) → List A �
 mapWithIndex f xs = mapFromIndex 0 f xs
 
 -- every test is passed
-unfoldable pub all : List Bool → Bool
-all [] = true
-all (b ∷ bs) = elim b [ true ↦ all bs | false ↦ false ]
+unfoldable pub allTrue : List Bool → Bool
+allTrue [] = true
+allTrue (b ∷ bs) = elim b [ true ↦ allTrue bs | false ↦ false ]
 
 -- how many tests are passed
-unfoldable pub count : List Bool → ℕ
-count [] = 0
-count (b ∷ bs) = elim b [ true ↦ suc (count bs) | false ↦ count bs ]
+unfoldable pub countTrue : List Bool → ℕ
+countTrue [] = 0
+countTrue (b ∷ bs) = elim b [ true ↦ suc (countTrue bs) | false ↦ countTrue bs ]
 
 -- the number of the first test that is passed, or how many tests there are
-unfoldable pub first : List Bool → ℕ
-first [] = 0
-first (b ∷ bs) = elim b [ true ↦ 0 | false ↦ suc (first bs) ]
+unfoldable pub firstTrue : List Bool → ℕ
+firstTrue [] = 0
+firstTrue (b ∷ bs) = elim b [ true ↦ 0 | false ↦ suc (firstTrue bs) ]
 
 -- every record passes
 abbrev pub every : {A : Type 0} → (ℕ → A → Bool) → List A → Bool
-every test xs = all (mapWithIndex test xs)
+every test xs = allTrue (mapWithIndex test xs)
 
 -- the number of the first record that passes, or how many records there are
 abbrev pub findIndex : {A : Type 0} → (ℕ → A → Bool) → List A → ℕ
-findIndex test xs = first (mapWithIndex test xs)
+findIndex test xs = firstTrue (mapWithIndex test xs)
 
 -- the number whose bit t is set where test t is passed
 unfoldable pub mask : List Bool → ℕ
@@ -57,13 +57,13 @@ bit zero m = m % 2
 bit (suc t) m = bit t (m / 2)
 
 -- the entries that pass a test, in order
-unfoldable pub filter : {A : Type 0} → (A → Bool) → List A → List A
-filter test [] = []
-filter test (x ∷ xs) = elim (test x) [ true ↦ x ∷ filter test xs | false ↦ filter test xs ]
+unfoldable pub keepIf : {A : Type 0} → (A → Bool) → List A → List A
+keepIf test [] = []
+keepIf test (x ∷ xs) = elim (test x) [ true ↦ x ∷ keepIf test xs | false ↦ keepIf test xs ]
 
-unfoldable pub sum : List ℕ → ℕ
-sum [] = 0
-sum (n ∷ ns) = n + sum ns
+unfoldable pub sumOf : List ℕ → ℕ
+sumOf [] = 0
+sumOf (n ∷ ns) = n + sumOf ns
 
 -- the least of `n` and the numbers
 unfoldable pub minimum : ℕ → List ℕ → ℕ
@@ -75,6 +75,6 @@ allZero [] = true
 allZero (n ∷ ns) = elim (eqb n 0) [ true ↦ allZero ns | false ↦ false ]
 
 -- the numbers from `i` on, `n` of them
-unfoldable pub range : ℕ → ℕ → List ℕ
-range i zero = []
-range i (suc n) = i ∷ range (suc i) n
+unfoldable pub numbersFrom : ℕ → ℕ → List ℕ
+numbersFrom i zero = []
+numbersFrom i (suc n) = i ∷ numbersFrom (suc i) n

@@ -1,6 +1,6 @@
 -- The rank steps: insert, take out, first. Messages and waiters share them. Insert and take out say what becomes of the position of record `j`.
 use Rattle.ranks.specs.Prelude.{ℕ, suc, _-_, _<_, _≡_, Bool, true, false, _&&_, List, [], map, getD, eqb, leb, ltb}
-use Rattle.ranks.specs.Lists.{if_then_else_, _implies_, mapWithIndex, count, every, findIndex, range}
+use Rattle.ranks.specs.Lists.{if_then_else_, _implies_, mapWithIndex, countTrue, every, findIndex, numbersFrom}
 use Rattle.ranks.specs.Position.{Position, noQueue, positionAt, inQueue, standsAt}
 use Rattle.ranks.specs.Table.{positionIn}
 
@@ -20,13 +20,13 @@ recordAt position slot rank xs = findIndex (λ j x. standsAt slot rank (position
 
 -- The records of the queue by rank: those at the ranks 0 to n-1, in order.
 unfoldable pub byRank : {A : Type 0} → (A → Position) → (slot n : ℕ) → List A → List ℕ
-byRank position slot n xs = map (λ r. recordAt position slot r xs) (range 0 n)
+byRank position slot n xs = map (λ r. recordAt position slot r xs) (numbersFrom 0 n)
 
 -- The positions in the queue have the ranks 0 to n-1, each exactly once.
 unfoldable pub ranked : (slot n : ℕ) → List Position → Bool
 ranked slot n ps =
     every (λ j p. inQueue slot p implies ltb (p .rank) n) ps
-    && every (λ i r. eqb (count (mapWithIndex (λ j p. standsAt slot r p) ps)) 1) (range 0 n)
+    && every (λ i r. eqb (countTrue (mapWithIndex (λ j p. standsAt slot r p) ps)) 1) (numbersFrom 0 n)
 
 -- ---- For the code, on a table whose records have their position at byte `place`
 

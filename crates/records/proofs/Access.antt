@@ -7,7 +7,7 @@ use mathlib.Core.Bool.{Bool, true, false}
 use mathlib.Core.List.{List, [], _∷_, map}
 use lib.Count.{ones, onesIn, ones-step}
 use Rattle.ranks.proofs.Table.{length-records, at-records}
-use Rattle.ranks.specs.Lists.{mask, count}
+use Rattle.ranks.specs.Lists.{mask, countTrue}
 use Rattle.records.specs.Records.{queueAt, bufferAt, taskAt, freeQueue, freeBuffer, freshTask}
 use Rattle.ranks.specs.Table.{slice, records}
 use Rattle.records.specs.Bytes.{decodeQueue, decodeBuffer, decodeTask, Tables, decode}
@@ -41,8 +41,8 @@ task-at t k h =
 -- ---- A mask and its ones
 
 -- the ones in a mask are as many as the tests that are passed
-pub ones-mask : (bs : List Bool) → ones (mask bs) ≡ count bs
-unfolding mask count ones onesIn
+pub ones-mask : (bs : List Bool) → ones (mask bs) ≡ countTrue bs
+unfolding mask countTrue ones onesIn
 ones-mask [] = refl
 ones-mask (true ∷ bs) =
     let m : (1 + 2 * mask bs) % 2 ≡ 1 = omega arith in

@@ -8,7 +8,7 @@ use mathlib.Core.List.{List, [], _∷_, _++_, map, flatten}
 use lib.Dec.{ltb}
 use lib.ListN.{length, getD, take, drop, replicate}
 use borrow.Author.Tests.{ltb-true}
-use Rattle.ranks.specs.Lists.{all}
+use Rattle.ranks.specs.Lists.{allTrue}
 use Rattle.records.specs.Bytes.{toLittleEndian, encodeQueue, encodeBuffer, encodeTask, encode}
 use Rattle.records.specs.Records.{Queue, Buffer, Task, State, freeQueue, freeBuffer, freshTask}
 use Rattle.records.specs.InRange.{AllBytes, QueueInRange, BufferInRange, TaskInRange, FieldsInRange}
@@ -49,13 +49,13 @@ bytes-zeros zero = bytes-nil
 bytes-zeros (suc n) = bytes-cons (omega arith) (bytes-zeros n)
 
 -- a test of every number, as a fact
-pub bytes-tested : (bs : List ℕ) → all (map (λ b. ltb b 256) bs) ≡ true → AllBytes bs
-unfolding all
+pub bytes-tested : (bs : List ℕ) → allTrue (map (λ b. ltb b 256) bs) ≡ true → AllBytes bs
+unfolding allTrue
 bytes-tested [] e = bytes-nil
 bytes-tested (b ∷ bs) e = go (ltb b 256) refl e (bytes-tested bs)
   where
-    go : (t : Bool) → ltb b 256 ≡ t → (elim t [ true ↦ all (map (λ b. ltb b 256) bs) | false ↦ false ]) ≡ true
-        → (all (map (λ b. ltb b 256) bs) ≡ true → AllBytes bs) → AllBytes (b ∷ bs)
+    go : (t : Bool) → ltb b 256 ≡ t → (elim t [ true ↦ allTrue (map (λ b. ltb b 256) bs) | false ↦ false ]) ≡ true
+        → (allTrue (map (λ b. ltb b 256) bs) ≡ true → AllBytes bs) → AllBytes (b ∷ bs)
     go true p e ih = bytes-cons (ltb-true _ _ p) (ih e)
     go false p e ih = absurd (false≢true e)
 

@@ -1,6 +1,6 @@
 -- Records have the bytes that the cases name, and the bytes are read back; the share of each record; fresh tables byte by byte. Assumes nothing.
 use Rattle.ranks.specs.Prelude.{ℕ, List, [], _∷_, map, replicate}
-use Rattle.ranks.specs.Lists.{mapFromIndex, mapWithIndex, first, range}
+use Rattle.ranks.specs.Lists.{mapFromIndex, mapWithIndex, firstTrue, numbersFrom}
 use Rattle.ranks.specs.Table.{slice}
 use Rattle.records.specs.Split.{split, shareOfSlot, shareOfBuffer, shareOfTask, shareLimit}
 use Rattle.records.specs.Records.{fresh, freshTask}
@@ -10,11 +10,11 @@ use mathlib.Core.Path.{_≡_, refl, ap}
 use mathlib.Core.List.{flatten}
 
 record-cases : map (λ k. k .actual) recordCases ≡ map (λ k. k .expected) recordCases
-unfolding range toLittleEndian encodeQueue encodeBuffer encodeTask exampleQueue queueBytes exampleBuffer bufferBytes exampleTask taskBytes recordCases
+unfolding numbersFrom toLittleEndian encodeQueue encodeBuffer encodeTask exampleQueue queueBytes exampleBuffer bufferBytes exampleTask taskBytes recordCases
 record-cases = refl
 
 split-cases : map (λ k. k .actual) splitCases ≡ map (λ k. k .expected) splitCases
-unfolding range first split shareOfSlot shareOfBuffer shareOfTask shareLimit splitCases
+unfolding numbersFrom firstTrue split shareOfSlot shareOfBuffer shareOfTask shareLimit splitCases
 split-cases = refl
 
 queue-read : decodeQueue queueBytes ≡ exampleQueue
@@ -22,11 +22,11 @@ unfolding slice fromLittleEndian decodeQueue exampleQueue queueBytes
 queue-read = refl
 
 buffer-read : decodeBuffer bufferBytes ≡ exampleBuffer
-unfolding range slice decodeBuffer exampleBuffer bufferBytes
+unfolding numbersFrom slice decodeBuffer exampleBuffer bufferBytes
 buffer-read = refl
 
 task-read : decodeTask taskBytes ≡ exampleTask
-unfolding range slice fromLittleEndian decodeTask exampleTask taskBytes
+unfolding numbersFrom slice fromLittleEndian decodeTask exampleTask taskBytes
 task-read = refl
 
 fresh-tasks : (i : ℕ) (priorities : List ℕ) → map encodeTask (mapFromIndex i (λ t p. freshTask p) priorities) ≡ map freshTaskBytes priorities

@@ -9,33 +9,33 @@ use mathlib.Core.List.{List, map}
 use lib.Dec.{eqb, leb, ltb}
 use lib.ListN.{getD}
 use borrow.Author.Tests.{leb-true, ltb-true}
-use Rattle.ranks.specs.Lists.{if_then_else_, all, every, first, mapFromIndex, mapWithIndex, range}
+use Rattle.ranks.specs.Lists.{if_then_else_, allTrue, every, firstTrue, mapFromIndex, mapWithIndex, numbersFrom}
 use Rattle.ranks.proofs.Lists.{every-at, length-range, at-range}
 use Rattle.records.specs.Split.{split, shareOfSlot, shareOfBuffer, shareOfTask, firstBuffer, shareLimit}
 use Rattle.records.proofs.Access.{at-map}
 
-pub agree : (f g : ℕ → ℕ) (n : ℕ) → map f (range 0 n) ≡ map g (range 0 n) → (i : ℕ) → i < n → f i ≡ g i
+pub agree : (f g : ℕ → ℕ) (n : ℕ) → map f (numbersFrom 0 n) ≡ map g (numbersFrom 0 n) → (i : ℕ) → i < n → f i ≡ g i
 agree f g n e i h = sym (value f) ∙ ap (λ (l : List ℕ). getD l i 0) e ∙ value g
   where
-    value : (f : ℕ → ℕ) → getD (map f (range 0 n)) i 0 ≡ f i
-    value f = at-map f (range 0 n) i 0 0 (omega (arith, length-range 0 n)) ∙ ap f (at-range 0 n i 0 h ∙ zero-add i)
+    value : (f : ℕ → ℕ) → getD (map f (numbersFrom 0 n)) i 0 ≡ f i
+    value f = at-map f (numbersFrom 0 n) i 0 0 (omega (arith, length-range 0 n)) ∙ ap f (at-range 0 n i 0 h ∙ zero-add i)
 
-computed : (f : ℕ → Bool) (n : ℕ) → every (λ _ i. f i) (range 0 n) ≡ true → (i : ℕ) → i < n → f i ≡ true
+computed : (f : ℕ → Bool) (n : ℕ) → every (λ _ i. f i) (numbersFrom 0 n) ≡ true → (i : ℕ) → i < n → f i ≡ true
 computed f n e i h =
-    subst (λ (k : ℕ). f k ≡ true) (at-range 0 n i 0 h ∙ zero-add i) (every-at (λ _ i. f i) (range 0 n) 0 e i (omega (arith, length-range 0 n)))
+    subst (λ (k : ℕ). f k ≡ true) (at-range 0 n i 0 h ∙ zero-add i) (every-at (λ _ i. f i) (numbersFrom 0 n) 0 e i (omega (arith, length-range 0 n)))
 
 -- ---- The split into shares
 
 pub slot-share-below : (slot : ℕ) → slot < 16 → shareOfSlot slot < 4
-unfolding all mapFromIndex mapWithIndex range first split shareOfSlot
+unfolding allTrue mapFromIndex mapWithIndex numbersFrom firstTrue split shareOfSlot
 slot-share-below slot h = ltb-true _ _ (computed (λ i. ltb (shareOfSlot i) 4) 16 refl slot h)
 
 pub task-share-below : (t : ℕ) → t < 32 → shareOfTask t < 4
-unfolding all mapFromIndex mapWithIndex range first split shareOfTask
+unfolding allTrue mapFromIndex mapWithIndex numbersFrom firstTrue split shareOfTask
 task-share-below t h = ltb-true _ _ (computed (λ i. ltb (shareOfTask i) 4) 32 refl t h)
 
 pub buffers-end : (share : ℕ) → share < 4 → firstBuffer share + shareLimit share ≤ 64
-unfolding all mapFromIndex mapWithIndex range split firstBuffer shareLimit
+unfolding allTrue mapFromIndex mapWithIndex numbersFrom split firstBuffer shareLimit
 buffers-end share h = leb-true _ _ (computed (λ p. leb (firstBuffer p + shareLimit p) 64) 4 refl share h)
 
 -- a share's buffers are those from its first on
@@ -45,8 +45,8 @@ inside share b = leb (firstBuffer share) b && ltb b (firstBuffer share + shareLi
 same : Bool → Bool → Bool
 same x y = if x then y else not y
 
-all-same : every (λ _ p. every (λ _ b. same (inside p b) (eqb p (shareOfBuffer b))) (range 0 64)) (range 0 4) ≡ true
-unfolding all mapFromIndex mapWithIndex range first split shareOfBuffer firstBuffer shareLimit same
+all-same : every (λ _ p. every (λ _ b. same (inside p b) (eqb p (shareOfBuffer b))) (numbersFrom 0 64)) (numbersFrom 0 4) ≡ true
+unfolding allTrue mapFromIndex mapWithIndex numbersFrom firstTrue split shareOfBuffer firstBuffer shareLimit same
 all-same = refl
 
 pub share-buffers : (share b : ℕ) → share < 4 → b < 64 → (leb (firstBuffer share) b && ltb b (firstBuffer share + shareLimit share)) ≡ eqb share (shareOfBuffer b)
@@ -54,7 +54,7 @@ unfolding same
 share-buffers share b h k =
     are-same (inside share b) (eqb share (shareOfBuffer b))
     (computed (λ b. same (inside share b) (eqb share (shareOfBuffer b))) 64
-    (computed (λ p. every (λ _ b. same (inside p b) (eqb p (shareOfBuffer b))) (range 0 64)) 4 all-same share h) b k)
+    (computed (λ p. every (λ _ b. same (inside p b) (eqb p (shareOfBuffer b))) (numbersFrom 0 64)) 4 all-same share h) b k)
   where
     are-same : (x y : Bool) → same x y ≡ true → x ≡ y
     are-same true y e = sym e

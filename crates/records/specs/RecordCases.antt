@@ -1,7 +1,7 @@
 -- Document 01, "Tables": a record of each kind, free and fresh records, and changed records, each with its bytes; the share of each record;
 -- and the bytes of fresh tables.
 use Rattle.ranks.specs.Prelude.{ℕ, _≡_, List, [], _∷_, _++_, map, flatten, replicate}
-use Rattle.ranks.specs.Lists.{range}
+use Rattle.ranks.specs.Lists.{numbersFrom}
 use Rattle.ranks.specs.Position.{positionAt}
 use Rattle.records.specs.Split.{shareOfSlot, shareOfBuffer, shareOfTask, shareLimit}
 use Rattle.records.specs.Records.{Queue, Buffer, Task, freeQueue, freeBuffer, freshTask, fresh}
@@ -29,10 +29,10 @@ queueBytes = 1 ∷ 2 ∷ 3 ∷ 4 ∷ 5 ∷ 6 ∷ 7 ∷ 8 ∷ 9 ∷ 10 ∷ 11 ∷
 
 unfoldable pub exampleBuffer : Buffer
 exampleBuffer =
-    record { position = record { queue = 1; rank = 2 }; messageLength = 3; reserved = 4 ∷ 5 ∷ 6 ∷ 7 ∷ 8 ∷ []; bytes = range 9 120 }
+    record { position = record { queue = 1; rank = 2 }; messageLength = 3; reserved = 4 ∷ 5 ∷ 6 ∷ 7 ∷ 8 ∷ []; bytes = numbersFrom 9 120 }
 
 unfoldable pub bufferBytes : List ℕ
-bufferBytes = 1 ∷ 2 ∷ 3 ∷ 4 ∷ 5 ∷ 6 ∷ 7 ∷ 8 ∷ range 9 120
+bufferBytes = 1 ∷ 2 ∷ 3 ∷ 4 ∷ 5 ∷ 6 ∷ 7 ∷ 8 ∷ numbersFrom 9 120
 
 unfoldable pub exampleTask : Task
 exampleTask =
@@ -45,11 +45,11 @@ exampleTask =
       reserved = 7 ∷ 8 ∷ [];
       ticksLeft = 0x0c0b0a09;
       reservedAfter = 13 ∷ 14 ∷ 15 ∷ 16 ∷ [];
-      receiveBuffer = range 17 120;
+      receiveBuffer = numbersFrom 17 120;
     }
 
 unfoldable pub taskBytes : List ℕ
-taskBytes = 1 ∷ 2 ∷ 3 ∷ 4 ∷ 5 ∷ 6 ∷ 7 ∷ 8 ∷ 9 ∷ 10 ∷ 11 ∷ 12 ∷ 13 ∷ 14 ∷ 15 ∷ 16 ∷ range 17 120
+taskBytes = 1 ∷ 2 ∷ 3 ∷ 4 ∷ 5 ∷ 6 ∷ 7 ∷ 8 ∷ 9 ∷ 10 ∷ 11 ∷ 12 ∷ 13 ∷ 14 ∷ 15 ∷ 16 ∷ numbersFrom 17 120
 
 -- ---- Records and their bytes
 
@@ -76,21 +76,21 @@ recordCases =
     -- "Fresh tables are zero but for priorities of 1 to 255."
     ∷ (encodeTask (freshTask 255) are (0 ∷ 0 ∷ 0 ∷ 255 ∷ zeros 132))
     -- other counts
-    ∷ (encodeQueue (withPending 100 exampleQueue) are (1 ∷ 2 ∷ 3 ∷ 4 ∷ 5 ∷ 6 ∷ 100 ∷ range 8 9))
-    ∷ (encodeQueue (withWaiters 100 exampleQueue) are (1 ∷ 2 ∷ 3 ∷ 4 ∷ 5 ∷ 6 ∷ 7 ∷ 100 ∷ range 9 8))
+    ∷ (encodeQueue (withPending 100 exampleQueue) are (1 ∷ 2 ∷ 3 ∷ 4 ∷ 5 ∷ 6 ∷ 100 ∷ numbersFrom 8 9))
+    ∷ (encodeQueue (withWaiters 100 exampleQueue) are (1 ∷ 2 ∷ 3 ∷ 4 ∷ 5 ∷ 6 ∷ 7 ∷ 100 ∷ numbersFrom 9 8))
     -- a message of two bytes at rank 2 of the queue in slot 4, and a message that moves there
     ∷ (encodeBuffer (messageBuffer (positionAt 4 2) (201 ∷ 202 ∷ [])) are (5 ∷ 2 ∷ 2 ∷ zeros 5 ++ (201 ∷ 202 ∷ zeros 118)))
-    ∷ (encodeBuffer (moveBuffer (positionAt 4 2) exampleBuffer) are (5 ∷ 2 ∷ range 3 126))
+    ∷ (encodeBuffer (moveBuffer (positionAt 4 2) exampleBuffer) are (5 ∷ 2 ∷ numbersFrom 3 126))
     -- "message copied, status 0, length set"; queue, rank and ticks are 0; "bytes beyond the length stay as they were"
     ∷ (encodeTask (withMessage (201 ∷ 202 ∷ 203 ∷ []) exampleTask)
-    are (0 ∷ 0 ∷ 0 ∷ 4 ∷ 0 ∷ 3 ∷ 7 ∷ 8 ∷ 0 ∷ 0 ∷ 0 ∷ 0 ∷ 13 ∷ 14 ∷ 15 ∷ 16 ∷ 201 ∷ 202 ∷ 203 ∷ range 20 117))
+    are (0 ∷ 0 ∷ 0 ∷ 4 ∷ 0 ∷ 3 ∷ 7 ∷ 8 ∷ 0 ∷ 0 ∷ 0 ∷ 0 ∷ 13 ∷ 14 ∷ 15 ∷ 16 ∷ 201 ∷ 202 ∷ 203 ∷ numbersFrom 20 117))
     -- a task that timed out
-    ∷ (encodeTask (readyWith 7 exampleTask) are (0 ∷ 0 ∷ 0 ∷ 4 ∷ 7 ∷ 6 ∷ 7 ∷ 8 ∷ 0 ∷ 0 ∷ 0 ∷ 0 ∷ range 13 124))
+    ∷ (encodeTask (readyWith 7 exampleTask) are (0 ∷ 0 ∷ 0 ∷ 4 ∷ 7 ∷ 6 ∷ 7 ∷ 8 ∷ 0 ∷ 0 ∷ 0 ∷ 0 ∷ numbersFrom 13 124))
     -- "the caller waits, status 14, length 0, ticks left as given"
-    ∷ (encodeTask (waitingAt (positionAt 4 2) 0x04030201 exampleTask) are (1 ∷ 5 ∷ 2 ∷ 4 ∷ 14 ∷ 0 ∷ 7 ∷ 8 ∷ 1 ∷ 2 ∷ 3 ∷ 4 ∷ range 13 124))
+    ∷ (encodeTask (waitingAt (positionAt 4 2) 0x04030201 exampleTask) are (1 ∷ 5 ∷ 2 ∷ 4 ∷ 14 ∷ 0 ∷ 7 ∷ 8 ∷ 1 ∷ 2 ∷ 3 ∷ 4 ∷ numbersFrom 13 124))
     -- a waiter that moves, and one with other ticks
-    ∷ (encodeTask (moveTask (positionAt 4 2) exampleTask) are (1 ∷ 5 ∷ 2 ∷ range 4 133))
-    ∷ (encodeTask (withTicks 0x04030201 exampleTask) are (1 ∷ 2 ∷ 3 ∷ 4 ∷ 5 ∷ 6 ∷ 7 ∷ 8 ∷ 1 ∷ 2 ∷ 3 ∷ 4 ∷ range 13 124))
+    ∷ (encodeTask (moveTask (positionAt 4 2) exampleTask) are (1 ∷ 5 ∷ 2 ∷ numbersFrom 4 133))
+    ∷ (encodeTask (withTicks 0x04030201 exampleTask) are (1 ∷ 2 ∷ 3 ∷ 4 ∷ 5 ∷ 6 ∷ 7 ∷ 8 ∷ 1 ∷ 2 ∷ 3 ∷ 4 ∷ numbersFrom 13 124))
     ∷ []
 
 -- ---- The split
@@ -98,11 +98,11 @@ recordCases =
 unfoldable pub splitCases : List Expectation
 splitCases =
     -- "Share p (0 to 3) owns slots 4p to 4p+3, buffers 16p to 16p+15, tasks 8p to 8p+7." What is past the end is of no share, 4.
-    (map shareOfSlot (range 0 17) are (replicate 4 0 ++ replicate 4 1 ++ replicate 4 2 ++ replicate 4 3 ++ (4 ∷ [])))
-    ∷ (map shareOfBuffer (range 0 65) are (replicate 16 0 ++ replicate 16 1 ++ replicate 16 2 ++ replicate 16 3 ++ (4 ∷ [])))
-    ∷ (map shareOfTask (range 0 33) are (replicate 8 0 ++ replicate 8 1 ++ replicate 8 2 ++ replicate 8 3 ++ (4 ∷ [])))
+    (map shareOfSlot (numbersFrom 0 17) are (replicate 4 0 ++ replicate 4 1 ++ replicate 4 2 ++ replicate 4 3 ++ (4 ∷ [])))
+    ∷ (map shareOfBuffer (numbersFrom 0 65) are (replicate 16 0 ++ replicate 16 1 ++ replicate 16 2 ++ replicate 16 3 ++ (4 ∷ [])))
+    ∷ (map shareOfTask (numbersFrom 0 33) are (replicate 8 0 ++ replicate 8 1 ++ replicate 8 2 ++ replicate 8 3 ++ (4 ∷ [])))
     -- "In each share the limits of live queues sum to at most 16."
-    ∷ (map shareLimit (range 0 5) are (16 ∷ 16 ∷ 16 ∷ 16 ∷ 0 ∷ []))
+    ∷ (map shareLimit (numbersFrom 0 5) are (16 ∷ 16 ∷ 16 ∷ 16 ∷ 0 ∷ []))
     ∷ []
 
 -- ---- Fresh tables

@@ -1,6 +1,6 @@
 -- Document 01, "Tables": which share owns which slots, buffers and tasks. No other definition says so.
 use Rattle.ranks.specs.Prelude.{ℕ, _+_, Bool, _&&_, List, [], _∷_, map, length, getD, leb, ltb}
-use Rattle.ranks.specs.Lists.{first}
+use Rattle.ranks.specs.Lists.{firstTrue}
 
 -- `count` records from number `from` on
 pub record Block : Type 0 where
@@ -33,13 +33,13 @@ holds b i = leb (b .from) i && ltb i (b .from + b .count)
 
 -- the share that owns a slot, a buffer, a task
 unfoldable pub shareOfSlot : ℕ → ℕ
-shareOfSlot i = first (map (λ s. holds (s .slots) i) split)
+shareOfSlot i = firstTrue (map (λ s. holds (s .slots) i) split)
 
 unfoldable pub shareOfBuffer : ℕ → ℕ
-shareOfBuffer b = first (map (λ s. holds (s .buffers) b) split)
+shareOfBuffer b = firstTrue (map (λ s. holds (s .buffers) b) split)
 
 unfoldable pub shareOfTask : ℕ → ℕ
-shareOfTask t = first (map (λ s. holds (s .tasks) t) split)
+shareOfTask t = firstTrue (map (λ s. holds (s .tasks) t) split)
 
 -- "In each share the limits of live queues sum to at most 16": to its buffers.
 unfoldable pub shareLimit : ℕ → ℕ

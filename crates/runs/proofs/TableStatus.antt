@@ -10,7 +10,7 @@ use lib.Dec.{eqb, ltb}
 use lib.ListN.{length, take, drop, length-take, List·getD-eq-default}
 use lib.Seq.{getD-take, getD-drop}
 use borrow.Author.Tests.{lt-ltb}
-use Rattle.ranks.specs.Lists.{if_then_else_, all}
+use Rattle.ranks.specs.Lists.{if_then_else_, allTrue}
 use Rattle.ranks.specs.Table.{slice}
 use Rattle.ranks.proofs.Tests.{same?, lt-or-ge}
 use Rattle.records.specs.Bytes.{Tables, fromLittleEndian}
@@ -45,8 +45,8 @@ pub sliced : (i n : ℕ) (l : List ℕ) → Slice l → Slice (slice i n l)
 unfolding slice
 sliced i n l s = taken n (drop i l) (dropped i l s)
 
-all-bytes : (l : List ℕ) → Slice l → all (map (λ b. ltb b 256) l) ≡ true
-unfolding all
+all-bytes : (l : List ℕ) → Slice l → allTrue (map (λ b. ltb b 256) l) ≡ true
+unfolding allTrue
 all-bytes [] s = refl
 all-bytes (b ∷ l) s = rw (lt-ltb b 256 (s 0)) (all-bytes l (λ i. s (suc i)))
 
@@ -78,7 +78,7 @@ either m false x y p q = q
 
 call-in-range : (m : List ℕ) (op caller′ option′ size′ id′ ticks′ limit′ maxSize′ : ℕ) → Slice m → Word caller′ → Word option′ → Word id′ → Word ticks′ → Word limit′ → Word maxSize′
     → InRange m (callWith op caller′ option′ size′ id′ ticks′ limit′ maxSize′)
-unfolding callWith callOf directiveOf argumentsInRange directiveInRange operationInRange all
+unfolding callWith callOf directiveOf argumentsInRange directiveInRange operationInRange allTrue
 call-in-range m op caller′ option′ size′ id′ ticks′ limit′ maxSize′ s c o i t l x =
     either m (eqb op 1) _ _ (rw (c, i, l, x, o))
     (either m (eqb op 2) _ _ (rw (c, i, t))

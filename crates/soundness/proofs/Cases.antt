@@ -8,7 +8,7 @@ use mathlib.Core.List.{List, [], _∷_}
 use lib.Dec.{eqb, leb}
 use lib.ListN.{length, drop}
 use borrow.Author.Tests.{eqb-true, eq-eqb, ne-eqb, lt-ltb, le-ltb, le-leb, lt-leb}
-use Rattle.ranks.specs.Lists.{all, allZero, within}
+use Rattle.ranks.specs.Lists.{allTrue, allZero, within}
 use Rattle.ranks.specs.Table.{slice, byte}
 use Rattle.ranks.proofs.Tests.{both}
 use Rattle.ranks.proofs.Lists.{all-cons, all-nil, holds, held}
@@ -26,26 +26,26 @@ same-truth false false h k = refl
 
 -- ---- Queues
 
-eight : (a b c d e f g h : Bool) → (a && b && c && d && e && f && g && h) ≡ all (a ∷ b ∷ c ∷ d ∷ e ∷ f ∷ g ∷ h ∷ [])
+eight : (a b c d e f g h : Bool) → (a && b && c && d && e && f && g && h) ≡ allTrue (a ∷ b ∷ c ∷ d ∷ e ∷ f ∷ g ∷ h ∷ [])
 eight a b c d e f g h = simp (all-cons, all-nil, and-true, and-assoc)
 
 module _ (q : Queue) (z : Bool) (e : z ≡ allZero (q .reserved)) where
   pub live-is : (leb (q .attributes) 3 && (leb 1 (q .limit) && leb (q .limit) 16) && (leb 1 (q .maxSize) && leb (q .maxSize) 120) && leb 1 (q .generation)
-      && leb 1 (q .name) && z && leb (q .pending) (q .limit) && (eqb (q .pending) 0 || eqb (q .waiters) 0)) ≡ all (liveQueueRules q)
+      && leb 1 (q .name) && z && leb (q .pending) (q .limit) && (eqb (q .pending) 0 || eqb (q .waiters) 0)) ≡ allTrue (liveQueueRules q)
   unfolding liveQueueRules within
   live-is = rw (← e) (eight _ _ _ _ _ z _ _)
 
   pub free-is : (eqb (q .live) 0 && eqb (q .attributes) 0 && eqb (q .limit) 0 && eqb (q .maxSize) 0 && eqb (q .pending) 0 && eqb (q .waiters) 0 && eqb (q .name) 0 && z)
-      ≡ all (freeQueueRules q)
+      ≡ allTrue (freeQueueRules q)
   unfolding freeQueueRules
   free-is = rw (← e) (eight _ _ _ _ _ _ _ z)
 
 module _ (q : Queue) where
-  pub sound-live : q .live ≡ 1 → all (liveQueueRules q) ≡ soundQueue q
+  pub sound-live : q .live ≡ 1 → allTrue (liveQueueRules q) ≡ soundQueue q
   unfolding soundQueue
   sound-live e = rw (eq-eqb (q .live) 1 e)
 
-  pub sound-free : (q .live ≡ 1 → ⊥) → all (freeQueueRules q) ≡ soundQueue q
+  pub sound-free : (q .live ≡ 1 → ⊥) → allTrue (freeQueueRules q) ≡ soundQueue q
   unfolding soundQueue
   sound-free ne = rw (ne-eqb (q .live) 1 ne)
 
@@ -80,7 +80,7 @@ third-false false y = refl
 -- ---- Buffers
 
 module _ (s : State) (b : ℕ) (m : Buffer) where
-  pub buffer-free : m .position .queue ≡ 0 → all (freeBufferRules m) ≡ soundBuffer s b m
+  pub buffer-free : m .position .queue ≡ 0 → allTrue (freeBufferRules m) ≡ soundBuffer s b m
   unfolding soundBuffer
   buffer-free e = rw (eq-eqb _ _ e)
 
@@ -105,7 +105,7 @@ module _ (s : State) (b : ℕ) (m : Buffer) where
 -- ---- Tasks
 
 -- the tests of a ready task in the order of the code, and in that of the rules
-same-tests : (a b c d e t u p s l : Bool) → all (a ∷ b ∷ c ∷ d ∷ e ∷ t ∷ u ∷ p ∷ s ∷ l ∷ []) ≡ all (p ∷ d ∷ e ∷ u ∷ a ∷ b ∷ c ∷ t ∷ s ∷ l ∷ [])
+same-tests : (a b c d e t u p s l : Bool) → allTrue (a ∷ b ∷ c ∷ d ∷ e ∷ t ∷ u ∷ p ∷ s ∷ l ∷ []) ≡ allTrue (p ∷ d ∷ e ∷ u ∷ a ∷ b ∷ c ∷ t ∷ s ∷ l ∷ [])
 same-tests a b c d e t u p s l =
     same-truth _ _
     (λ x.
@@ -118,7 +118,7 @@ same-tests a b c d e t u p s l =
 module _ (r : List ℕ) (long : length r ≡ 136) where
   pub ready-tests : (a b c p s l : Bool)
       → (a && b && c && eqb (byte 6 r) 0 && eqb (byte 7 r) 0 && allZero (slice 8 8 r) && p && s && l)
-      ≡ (all (p ∷ allZero (slice 6 2 r) ∷ allZero (slice 12 4 r) ∷ []) && all (a ∷ b ∷ c ∷ eqb (fromLittleEndian (slice 8 4 r)) 0 ∷ s ∷ l ∷ []))
+      ≡ (allTrue (p ∷ allZero (slice 6 2 r) ∷ allZero (slice 12 4 r) ∷ []) && allTrue (a ∷ b ∷ c ∷ eqb (fromLittleEndian (slice 8 4 r)) 0 ∷ s ∷ l ∷ []))
   ready-tests a b c p s l =
       ap (λ (z : Bool). a && b && c && eqb (byte 6 r) 0 && eqb (byte 7 r) 0 && z && p && s && l) (sym (zeros-add 8 4 4 r))
       ∙ flat a b c (eqb (byte 6 r) 0) (eqb (byte 7 r) 0) (allZero (slice 8 4 r)) (allZero (slice 12 4 r)) p s l
@@ -127,7 +127,7 @@ module _ (r : List ℕ) (long : length r ≡ 136) where
       ∙ spell p (eqb (byte 6 r) 0) (eqb (byte 7 r) 0) (allZero (slice 12 4 r)) a b c (allZero (slice 8 4 r)) s l
       ∙ sym (rw (zero-number (slice 8 4 r), pair) (simp (all-cons, all-nil, and-true, and-assoc)))
     where
-      spell : (a b c d e t u p s l : Bool) → all (a ∷ b ∷ c ∷ d ∷ e ∷ t ∷ u ∷ p ∷ s ∷ l ∷ []) ≡ (a && (b && (c && (d && (e && (t && (u && (p && (s && l)))))))))
+      spell : (a b c d e t u p s l : Bool) → allTrue (a ∷ b ∷ c ∷ d ∷ e ∷ t ∷ u ∷ p ∷ s ∷ l ∷ []) ≡ (a && (b && (c && (d && (e && (t && (u && (p && (s && l)))))))))
       spell a b c d e t u p s l = simp (all-cons, all-nil, and-true)
 
       flat : (a b c d e t u p s l : Bool) → (a && b && c && d && e && (t && u) && p && s && l) ≡ (a && (b && (c && (d && (e && (t && (u && (p && (s && l)))))))))
@@ -137,15 +137,15 @@ module _ (r : List ℕ) (long : length r ≡ 136) where
       pair = sym (zeros-add 6 1 1 r) ∙ sym (ap₂ (λ (x y : Bool). x && y) (zeros-one r 6 (omega arith)) (zeros-one r 7 (omega arith)))
 
 module _ (s : State) (t : ℕ) (w : Task) where
-  pub task-ready : (w .state ≡ 1 → ⊥) → (all (taskRules w) && all (readyTaskRules w)) ≡ soundTask s t w
+  pub task-ready : (w .state ≡ 1 → ⊥) → (allTrue (taskRules w) && allTrue (readyTaskRules w)) ≡ soundTask s t w
   unfolding soundTask
   task-ready ne = rw (ne-eqb (w .state) 1 ne)
 
   -- all that a ready task has to be
-  pub task-is-ready : (all (taskRules w) && all (readyTaskRules w)) ≡ true → true ≡ soundTask s t w
+  pub task-is-ready : (allTrue (taskRules w) && allTrue (readyTaskRules w)) ≡ true → true ≡ soundTask s t w
   unfolding readyTaskRules
   task-is-ready e =
-      let zero : w .state ≡ 0 = eqb-true _ _ (holds _ (both (all (taskRules w)) (all (readyTaskRules w)) e .1) .0) in
+      let zero : w .state ≡ 0 = eqb-true _ _ (holds _ (both (allTrue (taskRules w)) (allTrue (readyTaskRules w)) e .1) .0) in
       sym e ∙ task-ready (λ one. omega arith)
 
   pub task-nowhere : w .state ≡ 1 → w .position .queue ≡ 0 → false ≡ soundTask s t w
@@ -164,7 +164,7 @@ module _ (s : State) (t : ℕ) (w : Task) where
     task-beyond h = rw (eq-eqb (w .state) 1 o, named-slot, named, le-ltb slot 16 h) (simp (all-cons, and-false))
 
     pub task-waiting : slot < 16
-        → (all (taskRules w) && (isLive (queueAt s slot) && (eqb (shareOfSlot slot) (shareOfTask t) || isOpen (queueAt s slot)) && eqb (w .status) 14 && eqb (w .messageLength) 0))
+        → (allTrue (taskRules w) && (isLive (queueAt s slot) && (eqb (shareOfSlot slot) (shareOfTask t) || isOpen (queueAt s slot)) && eqb (w .status) 14 && eqb (w .messageLength) 0))
         ≡ soundTask s t w
     unfolding soundTask waitingTaskRules
     task-waiting h = rw (eq-eqb (w .state) 1 o, named-slot, named, lt-ltb slot 16 h) (simp (all-cons, all-nil, and-true, and-assoc))

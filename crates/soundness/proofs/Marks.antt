@@ -10,7 +10,7 @@ use lib.Dec.{eqb, leb}
 use lib.ListN.{length, getD, set, replicate, getD-replicate}
 use lib.Seq.{getD-set-same, getD-set-other}
 use borrow.Author.Tests.{eqb-true, eqb-false, eq-eqb, ne-eqb, leb-false, lt-leb, not-true}
-use Rattle.ranks.specs.Lists.{if_then_else_, _implies_, mapWithIndex, count, every, sum, all}
+use Rattle.ranks.specs.Lists.{if_then_else_, _implies_, mapWithIndex, countTrue, every, sumOf, allTrue}
 use Rattle.ranks.specs.Position.{Position, noQueue, inQueue}
 use Rattle.ranks.specs.Table.{slice}
 use Rattle.ranks.specs.Steps.{ranked}
@@ -26,41 +26,41 @@ use Rattle.soundness.specs.Parts.{held, queueRanked, placeOf, canMark, m
 -- ---- Sums of ones
 
 -- ones below n, and zeros from there on
-pub sum-ones : (xs : List ℕ) (n : ℕ) → n ≤ length xs → ((r : ℕ) → r < n → getD xs r 0 ≡ 1) → ((r : ℕ) → n ≤ r → r < length xs → getD xs r 0 ≡ 0) → sum xs ≡ n
-unfolding sum
+pub sum-ones : (xs : List ℕ) (n : ℕ) → n ≤ length xs → ((r : ℕ) → r < n → getD xs r 0 ≡ 1) → ((r : ℕ) → n ≤ r → r < length xs → getD xs r 0 ≡ 0) → sumOf xs ≡ n
+unfolding sumOf
 sum-ones [] n h ones zeros = omega arith
 sum-ones (x ∷ xs) zero h ones zeros =
     let z : x ≡ 0 = zeros 0 (omega arith) (omega arith) in
-    let ih : sum xs ≡ 0 = sum-ones xs 0 (omega arith) (λ r lt. absurd (omega arith)) (λ r _ lt. zeros (suc r) (omega arith) (omega arith)) in
+    let ih : sumOf xs ≡ 0 = sum-ones xs 0 (omega arith) (λ r lt. absurd (omega arith)) (λ r _ lt. zeros (suc r) (omega arith) (omega arith)) in
     omega arith
 sum-ones (x ∷ xs) (suc n) h ones zeros =
     let z : x ≡ 1 = ones 0 (omega arith) in
-    let ih : sum xs ≡ n = sum-ones xs n (omega arith) (λ r lt. ones (suc r) (omega arith)) (λ r le lt. zeros (suc r) (omega arith) (omega arith)) in
+    let ih : sumOf xs ≡ n = sum-ones xs n (omega arith) (λ r lt. ones (suc r) (omega arith)) (λ r le lt. zeros (suc r) (omega arith) (omega arith)) in
     omega arith
 
-sum-bound : (xs : List ℕ) (n : ℕ) → ((r : ℕ) → r < length xs → getD xs r 0 ≤ 1) → ((r : ℕ) → n ≤ r → r < length xs → getD xs r 0 ≡ 0) → sum xs ≤ n
-unfolding sum
+sum-bound : (xs : List ℕ) (n : ℕ) → ((r : ℕ) → r < length xs → getD xs r 0 ≤ 1) → ((r : ℕ) → n ≤ r → r < length xs → getD xs r 0 ≡ 0) → sumOf xs ≤ n
+unfolding sumOf
 sum-bound [] n small zeros = omega arith
 sum-bound (x ∷ xs) zero small zeros =
     let z : x ≡ 0 = zeros 0 (omega arith) (omega arith) in
-    let ih : sum xs ≤ 0 = sum-bound xs 0 (λ r lt. small (suc r) (omega arith)) (λ r _ lt. zeros (suc r) (omega arith) (omega arith)) in
+    let ih : sumOf xs ≤ 0 = sum-bound xs 0 (λ r lt. small (suc r) (omega arith)) (λ r _ lt. zeros (suc r) (omega arith) (omega arith)) in
     omega arith
 sum-bound (x ∷ xs) (suc n) small zeros =
     let z : x ≤ 1 = small 0 (omega arith) in
-    let ih : sum xs ≤ n = sum-bound xs n (λ r lt. small (suc r) (omega arith)) (λ r le lt. zeros (suc r) (omega arith) (omega arith)) in
+    let ih : sumOf xs ≤ n = sum-bound xs n (λ r lt. small (suc r) (omega arith)) (λ r le lt. zeros (suc r) (omega arith) (omega arith)) in
     omega arith
 
 -- as many ones as there are places below n: each of them is one
 pub ones-below : (xs : List ℕ) (n : ℕ) → ((r : ℕ) → r < length xs → getD xs r 0 ≤ 1) → ((r : ℕ) → n ≤ r → r < length xs → getD xs r 0 ≡ 0)
-    → sum xs ≡ n → (r : ℕ) → r < n → (r < length xs) × (getD xs r 0 ≡ 1)
-unfolding sum
+    → sumOf xs ≡ n → (r : ℕ) → r < n → (r < length xs) × (getD xs r 0 ≡ 1)
+unfolding sumOf
 ones-below [] n small zeros e r h = absurd (omega arith)
 ones-below (x ∷ xs) zero small zeros e r h = absurd (omega arith)
 ones-below (x ∷ xs) (suc n) small zeros e r h =
     go (small 0 (omega arith)) (sum-bound xs n (λ r lt. small (suc r) (omega arith)) (λ r le lt. zeros (suc r) (omega arith) (omega arith)))
     (ones-below xs n (λ r lt. small (suc r) (omega arith)) (λ r le lt. zeros (suc r) (omega arith) (omega arith))) r h
   where
-    go : x ≤ 1 → sum xs ≤ n → (sum xs ≡ n → (r : ℕ) → r < n → (r < length xs) × (getD xs r 0 ≡ 1)) → (r : ℕ) → r < suc n
+    go : x ≤ 1 → sumOf xs ≤ n → (sumOf xs ≡ n → (r : ℕ) → r < n → (r < length xs) × (getD xs r 0 ≡ 1)) → (r : ℕ) → r < suc n
         → (r < suc (length xs)) × (getD (x ∷ xs) r 0 ≡ 1)
     go z b rest zero h = (omega arith, omega arith)
     go z b rest (suc r) h = let w = rest (omega arith) r (omega arith) in let lt : r < length xs = w .0 in (omega arith, w .1)
@@ -303,7 +303,7 @@ module _ (messages : Bool) (qs : List Queue) (ps : List Position) where
       small : (r : ℕ) → r < length row → getD row r 0 ≤ 1
       small r lt = let lt′ : r < 32 = omega (arith, row-long) in omega (arith, row-at r lt′, entries-small (slot * 32 + r) (omega arith))
 
-      taken-ranked : sum row ≡ n → ranked slot n ps ≡ true
+      taken-ranked : sumOf row ≡ n → ranked slot n ps ≡ true
       taken-ranked e =
           to-ranked slot n ps
           (record {
@@ -318,7 +318,7 @@ module _ (messages : Bool) (qs : List Queue) (ps : List Position) where
               let lt′ : r < 32 = omega (arith, row-long, lt) in
               ⊎-elim (λ (z : getD seen (slot * 32 + r) 0 ≡ 0). absurd (omega (arith, is, row-at r lt′))) (λ w. w .1) (m .entry slot r inside lt′)
 
-      ranked-taken : isLive (Q slot) ≡ true → ranked slot n ps ≡ true → sum row ≡ n
+      ranked-taken : isLive (Q slot) ≡ true → ranked slot n ps ≡ true → sumOf row ≡ n
       ranked-taken live is =
           let r = from-ranked slot n ps is in
           let le : n ≤ 32 = few slot inside live is in
@@ -340,42 +340,42 @@ module _ (messages : Bool) (qs : List Queue) (ps : List Position) where
       unfolding _implies_
       same-test = go (isLive (Q slot)) refl
         where
-          holding : isLive (Q slot) ≡ true → (n ≡ 0 → ⊥) → (b c : Bool) → eqb (sum row) n ≡ b → ranked slot n ps ≡ c → b ≡ c
+          holding : isLive (Q slot) ≡ true → (n ≡ 0 → ⊥) → (b c : Bool) → eqb (sumOf row) n ≡ b → ranked slot n ps ≡ c → b ≡ c
           holding live ne true c e f = sym (taken-ranked (eqb-true _ _ e)) ∙ f
           holding live ne false true e f = absurd (eqb-false _ _ e (ranked-taken live f))
           holding live ne false false e f = refl
 
-          go : (l : Bool) → isLive (Q slot) ≡ l → ((l && not (eqb n 0)) implies eqb (sum row) n) ≡ (l implies ranked slot n ps)
+          go : (l : Bool) → isLive (Q slot) ≡ l → ((l && not (eqb n 0)) implies eqb (sumOf row) n) ≡ (l implies ranked slot n ps)
           go false e = refl
           go true e =
-              ⊎-elim (λ z. rw (eq-eqb n 0 z) (sym (none-ranked z))) (λ ne. rw (ne-eqb n 0 ne) (holding e ne (eqb (sum row) n) (ranked slot n ps) refl refl)) (same? n 0)
+              ⊎-elim (λ z. rw (eq-eqb n 0 z) (sym (none-ranked z))) (λ ne. rw (ne-eqb n 0 ne) (holding e ne (eqb (sumOf row) n) (ranked slot n ps) refl refl)) (same? n 0)
 
     pub all-taken : length qs ≡ 16 → every (ranksTaken messages seen) qs ≡ every (queueRanked messages ps) qs
     all-taken size =
-        ap all (mapped-cong (ranksTaken messages seen) (queueRanked messages ps) qs qs (freeQueue 0) (freeQueue 0) true refl (λ i h. same-test i (omega arith)))
+        ap allTrue (mapped-cong (ranksTaken messages seen) (queueRanked messages ps) qs qs (freeQueue 0) (freeQueue 0) true refl (λ i h. same-test i (omega arith)))
 
 -- a queue has at most as many ranks as there are records
 pub ranks-fit : (slot k : ℕ) (ps : List Position) → ranked slot k ps ≡ true → k ≤ length ps
-unfolding count
+unfolding countTrue
 ranks-fit slot k ps e =
-    let all = counted {position = λ (p : Position). p} {a = noQueue} {xs = ps} (record { long = refl; ranks = from-ranked slot k ps e }) in
-    omega (arith, all, count-bound (mapWithIndex (λ j p. inQueue slot p) ps), length-mapped (λ j p. inQueue slot p) ps)
+    let as-many = counted {position = λ (p : Position). p} {a = noQueue} {xs = ps} (record { long = refl; ranks = from-ranked slot k ps e }) in
+    omega (arith, as-many, count-bound (mapWithIndex (λ j p. inQueue slot p) ps), length-mapped (λ j p. inQueue slot p) ps)
   where
-    count-bound : (bs : List Bool) → count bs ≤ length bs
+    count-bound : (bs : List Bool) → countTrue bs ≤ length bs
     count-bound [] = omega arith
-    count-bound (true ∷ bs) = let ih : count bs ≤ length bs = count-bound bs in omega arith
-    count-bound (false ∷ bs) = let ih : count bs ≤ length bs = count-bound bs in omega arith
+    count-bound (true ∷ bs) = let ih : countTrue bs ≤ length bs = count-bound bs in omega arith
+    count-bound (false ∷ bs) = let ih : countTrue bs ≤ length bs = count-bound bs in omega arith
 
 -- ---- The marks of one queue, as the code goes by its tests
 
 module _ (messages : Bool) (seen : List ℕ) (slot : ℕ) (q : Queue) (n : ℕ) (count-is : n ≡ held messages q) where
-  pub row-right : sum (slice (slot * 32) 32 seen) ≡ n → ranksTaken messages seen slot q ≡ true
+  pub row-right : sumOf (slice (slot * 32) 32 seen) ≡ n → ranksTaken messages seen slot q ≡ true
   row-right e = implying _ _ (λ _. eq-eqb _ _ (e ∙ count-is))
 
   pub row-skipped : (eqb (q .live) 1 && not (eqb n 0)) ≡ false → ranksTaken messages seen slot q ≡ true
   unfolding _implies_
   row-skipped e = rw (← count-is, e)
 
-  pub row-wrong : (eqb (q .live) 1 && not (eqb n 0)) ≡ true → (sum (slice (slot * 32) 32 seen) ≡ n → ⊥) → ranksTaken messages seen slot q ≡ false
+  pub row-wrong : (eqb (q .live) 1 && not (eqb n 0)) ≡ true → (sumOf (slice (slot * 32) 32 seen) ≡ n → ⊥) → ranksTaken messages seen slot q ≡ false
   unfolding _implies_
   row-wrong e ne = rw (← count-is, e, ne-eqb _ _ ne)

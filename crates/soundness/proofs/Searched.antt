@@ -10,7 +10,7 @@ use lib.Dec.{eqb}
 use lib.ListN.{length, getD, take, drop, length-drop, drop-of-length-le}
 use lib.Seq.{drop-cons, drop-drop, take-all}
 use borrow.Author.Tests.{eq-eqb}
-use Rattle.ranks.specs.Lists.{allZero, sum}
+use Rattle.ranks.specs.Lists.{allZero, sumOf}
 use Rattle.ranks.proofs.Lists.{zeros-cons, zeros-nil}
 use Rattle.ranks.specs.Table.{slice, byte}
 use Rattle.records.proofs.Writing.{all-four}
@@ -27,15 +27,15 @@ zeros-four l e = sym (ap allZero (all-four l e) ∙ spell (byte 0 l) (byte 1 l) 
 -- ---- Sums
 
 module _ (l : List ℕ) where
-  pub sum-more : (i n : ℕ) → i < length l → n + sum (drop i l) ≡ sum l → n + getD l i 0 + sum (drop (i + 1) l) ≡ sum l
-  unfolding sum
+  pub sum-more : (i n : ℕ) → i < length l → n + sumOf (drop i l) ≡ sumOf l → n + getD l i 0 + sumOf (drop (i + 1) l) ≡ sumOf l
+  unfolding sumOf
   sum-more i n h inv =
-      let e : sum (drop i l) ≡ getD l i 0 + sum (drop (i + 1) l) = ap sum (drop-cons l i 0 h) ∙ ap (λ (k : ℕ). getD l i 0 + sum (drop k l)) (sym (add-one i)) in
+      let e : sumOf (drop i l) ≡ getD l i 0 + sumOf (drop (i + 1) l) = ap sumOf (drop-cons l i 0 h) ∙ ap (λ (k : ℕ). getD l i 0 + sumOf (drop k l)) (sym (add-one i)) in
       omega arith
 
-  pub sum-end : (i n : ℕ) → length l ≤ i → n + sum (drop i l) ≡ sum l → n ≡ sum l
-  unfolding sum
-  sum-end i n h inv = sym (add-zero n) ∙ ap (λ (k : List ℕ). n + sum k) (sym (drop-of-length-le l h)) ∙ inv
+  pub sum-end : (i n : ℕ) → length l ≤ i → n + sumOf (drop i l) ≡ sumOf l → n ≡ sumOf l
+  unfolding sumOf
+  sum-end i n h inv = sym (add-zero n) ∙ ap (λ (k : List ℕ). n + sumOf k) (sym (drop-of-length-le l h)) ∙ inv
 
 -- ---- Parts of a buffer record
 

@@ -7,7 +7,7 @@ use mathlib.Core.Logic.{⊎-elim}
 use mathlib.Core.List.{List, [], _∷_}
 use lib.ListN.{length, getD}
 use borrow.Author.Tests.{eqb-true, eq-eqb, leb-true, ltb-true, not-true, not-false}
-use Rattle.ranks.specs.Lists.{_implies_, all, every, mapWithIndex}
+use Rattle.ranks.specs.Lists.{_implies_, allTrue, every, mapWithIndex}
 use Rattle.ranks.specs.Position.{Position, noQueue, inQueue}
 use Rattle.ranks.specs.Table.{records, Shape}
 use Rattle.ranks.proofs.Tests.{both, and}
@@ -37,7 +37,7 @@ module _ {A : Type 0} (f g : ℕ → A → Bool) (l : List A) (d : A) where
       and (every-from f l d (λ i k. h i k .0)) (every-from g l d (λ i k. h i k .1)))
       (λ e. let (x, y) = both (every f l) (every g l) e in every-from pair l d (λ i k. and (every-at f l d x i k) (every-at g l d y i k)))
 
-three : (l a b c : Bool) → (l implies all (a ∷ b ∷ c ∷ [])) ≡ ((l implies a) && ((l implies b) && (l implies c)))
+three : (l a b c : Bool) → (l implies allTrue (a ∷ b ∷ c ∷ [])) ≡ ((l implies a) && ((l implies b) && (l implies c)))
 unfolding _implies_
 three true a b c = simp (all-cons, all-nil, and-true)
 three false a b c = refl
@@ -65,7 +65,7 @@ module _ (q p t : List ℕ) where
       mapped-all : every (λ slot x. isLive x implies soundRanks whole slot x) (decodeQueues q)
           ≡ every (λ slot x. queueRanked true (poolPositions p) slot x && (queueRanked false (taskPositions t) slot x && queueInOrder (onlyTasks t) slot x)) (decodeQueues q)
       mapped-all =
-          ap all (mapped-cong (λ slot x. isLive x implies soundRanks whole slot x)
+          ap allTrue (mapped-cong (λ slot x. isLive x implies soundRanks whole slot x)
           (λ slot x. queueRanked true (poolPositions p) slot x && (queueRanked false (taskPositions t) slot x && queueInOrder (onlyTasks t) slot x)) (decodeQueues q) (decodeQueues q) (freeQueue 0) (freeQueue 0) true refl (λ i h. one i (getD (decodeQueues q) i (freeQueue 0))))
 
   -- what the parts of the search say, in its order
@@ -78,7 +78,7 @@ module _ (q p t : List ℕ) where
       ∷ every (queueInOrder (onlyTasks t)) (decodeQueues q)
       ∷ []
 
-  pub parts : all tests ≡ sound whole
+  pub parts : allTrue tests ≡ sound whole
   unfolding sound decode soundLimits limits soundBuffer soundTask
   parts =
       sym (rw ranks-parts
@@ -87,18 +87,18 @@ module _ (q p t : List ℕ) where
       (every (queueInOrder (onlyTasks t)) (decodeQueues q)) (every (soundTask (onlyQueues q)) (decodeTasks t))))
     where
       -- the rules of tasks stand before the ranks of waiters
-      order : (a b c d e f g : Bool) → all (a ∷ b ∷ c ∷ (d && (e && f)) ∷ g ∷ []) ≡ all (a ∷ b ∷ (c && d) ∷ (g && e) ∷ f ∷ [])
+      order : (a b c d e f g : Bool) → allTrue (a ∷ b ∷ c ∷ (d && (e && f)) ∷ g ∷ []) ≡ allTrue (a ∷ b ∷ (c && d) ∷ (g && e) ∷ f ∷ [])
       order a b c d e f g =
           simp (all-cons, all-nil, and-true, and-assoc)
           (ap (λ (x : Bool). a && (b && (c && (d && x)))) (sym (and-assoc e f g) ∙ and-comm (e && f) g))
 
 -- ---- A search that ends at the first part that fails: what is left decides
 
-pub go-on : (bs : List Bool) {r a z : Bool} → r ≡ a → not r ≡ false → all (a ∷ bs) ≡ z → all bs ≡ z
-go-on bs e f h = sym (all-cons _ bs ∙ ap (λ (b : Bool). b && all bs) (sym e ∙ not-false _ f)) ∙ h
+pub go-on : (bs : List Bool) {r a z : Bool} → r ≡ a → not r ≡ false → allTrue (a ∷ bs) ≡ z → allTrue bs ≡ z
+go-on bs e f h = sym (all-cons _ bs ∙ ap (λ (b : Bool). b && allTrue bs) (sym e ∙ not-false _ f)) ∙ h
 
-pub ends : (bs : List Bool) {r a z : Bool} → r ≡ a → not r ≡ true → all (a ∷ bs) ≡ z → false ≡ z
-ends bs e f h = sym (all-cons _ bs ∙ ap (λ (b : Bool). b && all bs) (sym e ∙ not-true _ f)) ∙ h
+pub ends : (bs : List Bool) {r a z : Bool} → r ≡ a → not r ≡ true → allTrue (a ∷ bs) ≡ z → false ≡ z
+ends bs e f h = sym (all-cons _ bs ∙ ap (λ (b : Bool). b && allTrue bs) (sym e ∙ not-true _ f)) ∙ h
 
-pub last : {r a z : Bool} → r ≡ a → all (a ∷ []) ≡ z → r ≡ z
+pub last : {r a z : Bool} → r ≡ a → allTrue (a ∷ []) ≡ z → r ≡ z
 last {a = a} e h = e ∙ sym (all-cons a [] ∙ ap (λ (b : Bool). a && b) all-nil ∙ and-true a) ∙ h

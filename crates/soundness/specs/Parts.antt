@@ -1,6 +1,6 @@
 -- What the parts of the search look at, and what they pass on.
 use Rattle.ranks.specs.Prelude.{ℕ, suc, pred, _+_, _*_, _≤_, _<_, _≡_, Bool, true, false, not, List, [], getD, set, eqb, leb, _&&_, _||_, _⊎_}
-use Rattle.ranks.specs.Lists.{if_then_else_, _implies_, mapWithIndex, sum}
+use Rattle.ranks.specs.Lists.{if_then_else_, _implies_, mapWithIndex, sumOf}
 use Rattle.ranks.specs.Position.{Position, noQueue}
 use Rattle.ranks.specs.Table.{slice, records, positionIn}
 use Rattle.ranks.specs.Steps.{ranked}
@@ -62,7 +62,7 @@ pub record Marked (messages : Bool) (qs : List Queue) (ps : List Position) (k : 
 -- as many ranks of the live queue are marked as it holds, if it holds any
 abbrev pub ranksTaken : (messages : Bool) (seen : List ℕ) (slot : ℕ) → Queue → Bool
 ranksTaken messages seen slot q =
-    (isLive q && not (eqb (held messages q) 0)) implies eqb (sum (slice (slot * 32) 32 seen)) (held messages q)
+    (isLive q && not (eqb (held messages q) 0)) implies eqb (sumOf (slice (slot * 32) 32 seen)) (held messages q)
 
 -- What a pass over a table that answers `r` says: every record is as its rules say and marked its rank, or one is not, or the ranks are broken.
 pub record Tested (rules ranks : Bool) (marks : Type 0) (r : Bool) : Type 0 where

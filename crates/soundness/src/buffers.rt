@@ -3,7 +3,7 @@ ghost use mathlib.Core.Path.{_≡_};
 ghost use mathlib.Core.Bool.{true, _&&_};
 ghost use Prim.Native.Nat.{_<_};
 ghost use lib.ListN.{length, drop, replicate};
-ghost use Rattle.ranks.specs.Lists.{all, allZero, every};
+ghost use Rattle.ranks.specs.Lists.{allTrue, allZero, every};
 ghost use Rattle.ranks.specs.Table.{slice, byte};
 ghost use Rattle.records.specs.Records.{isLive, sizeAllowed};
 ghost use Rattle.records.specs.Bytes.{decodeBuffer, decodeQueues, decodePool};
@@ -23,7 +23,7 @@ use records::zeros::zeros_from;
 // A buffer with no owner.
 fn free_buffer(r: &[u8]) -> bool
     requires { ⌜ (length (now r) ≡ 128) × (byte 0 (now r) ≡ 0) ⌝ }
-    ensures { λ x. ⌜ x ≡ all (freeBufferRules (decodeBuffer (now (r .entry)))) ⌝ }
+    ensures { λ x. ⌜ x ≡ allTrue (freeBufferRules (decodeBuffer (now (r .entry)))) ⌝ }
 {
     zeros_from(r, 0)
 }

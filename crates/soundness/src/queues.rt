@@ -3,7 +3,7 @@ ghost use mathlib.Core.Path.{_≡_};
 ghost use mathlib.Core.Bool.{true};
 ghost use Prim.Native.Nat.{_*_, _≤_, _<_};
 ghost use lib.ListN.{length};
-ghost use Rattle.ranks.specs.Lists.{all, allZero, every};
+ghost use Rattle.ranks.specs.Lists.{allTrue, allZero, every};
 ghost use Rattle.ranks.specs.Table.{slice};
 ghost use Rattle.records.specs.Bytes.{decodeQueue, decodeQueues};
 ghost use Rattle.specification.specs.Sound.{liveQueueRules, freeQueueRules, soundQueue, limitIn, limits, soundLimits};
@@ -21,7 +21,7 @@ fn reserved_zero(reserved: [u8; 4]) -> bool
 }
 
 fn live_queue(q: QueueRecord) -> bool
-    ensures { λ r. ⌜ r ≡ all (liveQueueRules q) ⌝ }
+    ensures { λ r. ⌜ r ≡ allTrue (liveQueueRules q) ⌝ }
 {
     let s = q.reserved;
     (q.attributes <= 3)
@@ -35,7 +35,7 @@ fn live_queue(q: QueueRecord) -> bool
 }
 
 fn free_queue(q: QueueRecord) -> bool
-    ensures { λ r. ⌜ r ≡ all (freeQueueRules q) ⌝ }
+    ensures { λ r. ⌜ r ≡ allTrue (freeQueueRules q) ⌝ }
 {
     let s = q.reserved;
     (q.live == 0)

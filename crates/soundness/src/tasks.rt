@@ -4,7 +4,7 @@ ghost use mathlib.Core.Bool.{true, false, _&&_, _||_};
 ghost use Prim.Native.Nat.{_<_};
 ghost use lib.Dec.{eqb};
 ghost use lib.ListN.{length, replicate};
-ghost use Rattle.ranks.specs.Lists.{all, every};
+ghost use Rattle.ranks.specs.Lists.{allTrue, every};
 ghost use Rattle.ranks.specs.Table.{byte};
 ghost use Rattle.records.specs.Records.{isLive, isOpen};
 ghost use Rattle.records.specs.Bytes.{decodeTask, decodeQueues, decodeTasks};
@@ -25,7 +25,7 @@ use records::zeros::two_zeros;
 // A task that does not wait. The bytes that have to be zero stand side by side, so that they are tested together.
 fn ready_task(r: &[u8]) -> bool
     requires { ⌜ length (now r) ≡ 136 ⌝ }
-    ensures { λ x. ⌜ x ≡ (all (taskRules (decodeTask (now (r .entry)))) && all (readyTaskRules (decodeTask (now (r .entry))))) ⌝ }
+    ensures { λ x. ⌜ x ≡ (allTrue (taskRules (decodeTask (now (r .entry)))) && allTrue (readyTaskRules (decodeTask (now (r .entry))))) ⌝ }
 {
     (r[0] == 0)
         & (r[1] == 0)
@@ -41,7 +41,7 @@ fn ready_task(r: &[u8]) -> bool
 // The task may wait in the queue, which is of its own share or not.
 fn waiting_task(q: QueueRecord, own: bool, r: &[u8]) -> bool
     requires { ⌜ length (now r) ≡ 136 ⌝ }
-    ensures { λ x. ⌜ x ≡ (all (taskRules (decodeTask (now (r .entry)))) && (isLive q && (own || isOpen q) && eqb (byte 4 (now (r .entry))) 14 && eqb (byte 5 (now (r .entry))) 0)) ⌝ }
+    ensures { λ x. ⌜ x ≡ (allTrue (taskRules (decodeTask (now (r .entry)))) && (isLive q && (own || isOpen q) && eqb (byte 4 (now (r .entry))) 14 && eqb (byte 5 (now (r .entry))) 0)) ⌝ }
 {
     ((1 <= r[3]) & two_zeros(r, 6) & four_zeros(r, 12))
         & ((q.live == 1) & (own | (q.attributes / 2 % 2 == 1)) & (r[4] == 14) & (r[5] == 0))

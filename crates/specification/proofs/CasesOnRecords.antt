@@ -1,6 +1,6 @@
 -- The cases hold on records: every answer, and the bytes of the records that they name. Each group of cases is computed. Assumes nothing.
 use Rattle.ranks.specs.Prelude.{ℕ, _+_, Bool, true, _&&_, List, [], _∷_, _++_, map, length, eqb, leb, ltb}
-use Rattle.ranks.specs.Lists.{all, within}
+use Rattle.ranks.specs.Lists.{allTrue, within}
 use Rattle.ranks.specs.Table.{slice}
 use Rattle.records.specs.Layout.{slotCount, bufferCount, taskCount}
 use Rattle.records.specs.Records.{State, queueAt, bufferAt, taskAt, fresh}
@@ -55,7 +55,7 @@ observedOnRecords k = observedFrom (fresh (k .priorities)) (k .events) (k .field
 
 -- a statement that is proved by computing with all the definitions
 unfoldable pub Computed : Type 0 → Type 0
-unfolding Lists._implies_ Lists.within Lists.mapFromIndex Lists.mapWithIndex Lists.all Lists.count Lists.first Lists.mask Lists.sum Lists.minimum Lists.allZero Lists.range Steps.inserted Steps.takenOut Steps.ranked Split.split Split.shareCount Split.shareOfSlot Split.shareOfBuffer Split.shareOfTask Split.shareLimit Layout.idOf Records.fresh Records.sizeAllowed Answer.refuseIfAny Sound.freeQueueRules Sound.liveQueueRules Sound.soundQueue Sound.limits Sound.soundLimits Sound.freeBufferRules Sound.usedBufferRules Sound.soundBuffer Sound.byPriority Sound.soundRanks Sound.taskRules Sound.readyTaskRules Sound.waitingTaskRules Sound.soundTask Sound.sound Lookup.usable Lookup.isForeign Lookup.firstWaiter Lookup.firstMessage Lookup.waitersOf Lookup.leave Lookup.withoutWaiters Lookup.withoutMessages Create.freeSlot Create.refusals Create.effect Ident.named Ident.refusals Ident.effect Delete.refusals Delete.effect Submit.freeBufferOf Submit.refusals Submit.delivered Submit.enqueued Submit.effect Broadcast.refusals Broadcast.effect Receive.refusals Receive.received Receive.waitRank Receive.waiting Receive.effect GetNumberPending.effect Flush.refusals Flush.effect Tick.tickTask Tick.tickTasks Tick.effect Step.badCaller Step.commonRefusals Step.operationRefusals Step.directiveRefusals Step.ownRefusals Step.operationEffect Step.effect OnRecords.callOnRecords OnRecords.eventsOnRecords OnRecords.stateAfter Table.slice Table.spliced Bytes.toLittleEndian Bytes.fromLittleEndian Bytes.encodeQueue Bytes.encodeBuffer Bytes.encodeTask Bytes.decodeQueue Bytes.decodeBuffer Bytes.decodeTask recordBytes fieldOnRecords observedFrom observedOnRecords Cases.expected
+unfolding Lists._implies_ Lists.within Lists.mapFromIndex Lists.mapWithIndex Lists.allTrue Lists.countTrue Lists.firstTrue Lists.mask Lists.sumOf Lists.minimum Lists.allZero Lists.numbersFrom Steps.inserted Steps.takenOut Steps.ranked Split.split Split.shareCount Split.shareOfSlot Split.shareOfBuffer Split.shareOfTask Split.shareLimit Layout.idOf Records.fresh Records.sizeAllowed Answer.refuseIfAny Sound.freeQueueRules Sound.liveQueueRules Sound.soundQueue Sound.limits Sound.soundLimits Sound.freeBufferRules Sound.usedBufferRules Sound.soundBuffer Sound.byPriority Sound.soundRanks Sound.taskRules Sound.readyTaskRules Sound.waitingTaskRules Sound.soundTask Sound.sound Lookup.usable Lookup.isForeign Lookup.firstWaiter Lookup.firstMessage Lookup.waitersOf Lookup.leave Lookup.withoutWaiters Lookup.withoutMessages Create.freeSlot Create.refusals Create.effect Ident.named Ident.refusals Ident.effect Delete.refusals Delete.effect Submit.freeBufferOf Submit.refusals Submit.delivered Submit.enqueued Submit.effect Broadcast.refusals Broadcast.effect Receive.refusals Receive.received Receive.waitRank Receive.waiting Receive.effect GetNumberPending.effect Flush.refusals Flush.effect Tick.tickTask Tick.tickTasks Tick.effect Step.badCaller Step.commonRefusals Step.operationRefusals Step.directiveRefusals Step.ownRefusals Step.operationEffect Step.effect OnRecords.callOnRecords OnRecords.eventsOnRecords OnRecords.stateAfter Table.slice Table.spliced Bytes.toLittleEndian Bytes.fromLittleEndian Bytes.encodeQueue Bytes.encodeBuffer Bytes.encodeTask Bytes.decodeQueue Bytes.decodeBuffer Bytes.decodeTask recordBytes fieldOnRecords observedFrom observedOnRecords Cases.expected
 Computed P = P
 
 -- what agrees on two lists agrees on both together
@@ -110,12 +110,12 @@ fieldInRange f = ltb (f .number) (countOf (f .table)) && leb (f .place + length 
 
 unfoldable pub caseInRange : Case → Bool
 caseInRange k =
-    all
+    allTrue
     (goodPriorities (k .priorities)
-    ∷ all (map argumentsInRange (callsOf k))
-    ∷ all (map fieldInRange (k .fields))
+    ∷ allTrue (map argumentsInRange (callsOf k))
+    ∷ allTrue (map fieldInRange (k .fields))
     ∷ [])
 
-pub cases-in-range : all (map caseInRange cases) ≡ true
-unfolding Lists.range Lists.all Lists.within Lists.mapFromIndex Lists.mapWithIndex goodPriorities Call.operationInRange Call.directiveInRange Call.argumentsInRange fieldInRange caseInRange paperCases refusalCases queueCases messageCases waiterCases cases
+pub cases-in-range : allTrue (map caseInRange cases) ≡ true
+unfolding Lists.numbersFrom Lists.allTrue Lists.within Lists.mapFromIndex Lists.mapWithIndex goodPriorities Call.operationInRange Call.directiveInRange Call.argumentsInRange fieldInRange caseInRange paperCases refusalCases queueCases messageCases waiterCases cases
 cases-in-range = refl

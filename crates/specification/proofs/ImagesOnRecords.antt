@@ -1,7 +1,7 @@
 -- The sound images are sound, each unsound one breaks one part of soundness, and calls on images are answered as expected. All of it is
 -- computed. Assumes nothing.
 use Rattle.ranks.specs.Prelude.{Bool, true, false, List, [], _∷_, _++_, map}
-use Rattle.ranks.specs.Lists.{_implies_, all, every}
+use Rattle.ranks.specs.Lists.{_implies_, allTrue, every}
 use Rattle.records.specs.Records.{State, isLive}
 use Rattle.specification.specs.Sound.{soundQueue, soundLimits, soundBuffer, soundRanks, soundTask, sound}
 use Rattle.specification.specs.Cases.{Seen}
@@ -56,10 +56,10 @@ image-cases = refl
 -- ---- The verdict on each image
 
 sound-by-parts : (verdict : List Bool) (images : List Image) → map (λ i. parts (stateOf i)) images ≡ map (λ i. verdict) images
-    → map (λ i. sound (stateOf i)) images ≡ map (λ i. all verdict) images
+    → map (λ i. sound (stateOf i)) images ≡ map (λ i. allTrue verdict) images
 unfolding sound parts
 sound-by-parts verdict images p =
-    sym (map-map all (λ i. parts (stateOf i)) images) ∙ ap (map all) p ∙ map-map all (λ i. verdict) images
+    sym (map-map allTrue (λ i. parts (stateOf i)) images) ∙ ap (map allTrue) p ∙ map-map allTrue (λ i. verdict) images
 
 pub sound-images : map (λ i. sound (stateOf i)) soundImages ≡ map (λ i. true) soundImages
 unfolding Computed

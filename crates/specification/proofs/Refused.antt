@@ -6,7 +6,7 @@ use mathlib.Core.Bool.{Bool, true, false}
 use mathlib.Core.List.{List, [], _∷_, _++_, map}
 use lib.Dec.{leb}
 use borrow.Author.Tests.{leb-true}
-use Rattle.ranks.specs.Lists.{if_then_else_, all}
+use Rattle.ranks.specs.Lists.{if_then_else_, allTrue}
 use Rattle.ranks.proofs.Lists.{holds, held}
 use Rattle.specification.specs.Answer.{Outcome, Refusal, refuse, refuseIfAny, firstStatus}
 
@@ -58,11 +58,11 @@ none-right (r ∷ rs) rs′ n = none-right rs rs′ (n .1)
 
 -- every reason has a status that is not 0
 abbrev pub Numbered : List Refusal → Type 0
-Numbered rs = all (map (λ r. leb 1 (r .status)) rs) ≡ true
+Numbered rs = allTrue (map (λ r. leb 1 (r .status)) rs) ≡ true
 
 -- where the first status is 0, no reason holds
 pub none-holds : (rs : List Refusal) → Numbered rs → 0 ≡ firstStatus rs → None rs
-unfolding firstStatus all
+unfolding firstStatus allTrue
 none-holds [] k e = tt
 none-holds (r ∷ rs) k e = go (r .holds) refl (none-holds rs (numbers .1))
   where

@@ -8,7 +8,7 @@ use mathlib.Core.List.{List, [], _∷_}
 use lib.Dec.{eqb, leb, ltb}
 use lib.ListN.{drop}
 use borrow.Author.Tests.{eqb-true, eqb-false, ltb-true, lt-ltb, eq-eqb, ne-eqb, leb-true, le-leb}
-use Rattle.ranks.specs.Lists.{all, allZero, within}
+use Rattle.ranks.specs.Lists.{allTrue, allZero, within}
 use Rattle.records.specs.Split.{shareOfSlot, shareOfBuffer, shareOfTask}
 use Rattle.ranks.specs.Position.{Position}
 use Rattle.records.specs.Records.{Queue, Buffer, Task, State, queueAt, isLive, isOpen, isWaiting, sizeAllowed}
@@ -74,7 +74,7 @@ zero-either : (a b : ℕ) → (a ≡ 0) ⊎ (b ≡ 0) → (eqb a 0 || eqb b 0) �
 zero-either a b (inl p) = or-left _ (eq-eqb _ _ p)
 zero-either a b (inr p) = or-right (eqb a 0) (eq-eqb _ _ p)
 
-live-rules : (q : Queue) → q .live ≡ 1 → all (liveQueueRules q) ≡ true → Live q
+live-rules : (q : Queue) → q .live ≡ 1 → allTrue (liveQueueRules q) ≡ true → Live q
 unfolding liveQueueRules
 live-rules q l e =
     let (h1, (h2, (h3, (h4, (h5, (h6, (h7, (h8, h9)))))))) = holds _ e in
@@ -92,7 +92,7 @@ live-rules q l e =
       either = either-zero _ _ h8;
     }
 
-free-rules : (q : Queue) → all (freeQueueRules q) ≡ true → Free q
+free-rules : (q : Queue) → allTrue (freeQueueRules q) ≡ true → Free q
 unfolding freeQueueRules
 free-rules q e =
     let (h1, (h2, (h3, (h4, (h5, (h6, (h7, (h8, h9)))))))) = holds _ e in
@@ -111,7 +111,7 @@ pub queue-rules : (q : Queue) → soundQueue q ≡ true → Live q ⊎ Free q
 unfolding soundQueue
 queue-rules q = go (isLive q) refl
   where
-    go : (b : Bool) → isLive q ≡ b → (elim b [ true ↦ all (liveQueueRules q) | false ↦ all (freeQueueRules q) ]) ≡ true → Live q ⊎ Free q
+    go : (b : Bool) → isLive q ≡ b → (elim b [ true ↦ allTrue (liveQueueRules q) | false ↦ allTrue (freeQueueRules q) ]) ≡ true → Live q ⊎ Free q
     go true l e = inl (live-rules q (eqb-true _ _ l) e)
     go false l e = inr (free-rules q e)
 
@@ -156,7 +156,7 @@ free-sound q f =
 
 pub record Unused (m : Buffer) : Type 0 where
   pub queue : m .position .queue ≡ 0
-  pub rules : all (freeBufferRules m) ≡ true
+  pub rules : allTrue (freeBufferRules m) ≡ true
 
 pub record Used (s : State) (b : ℕ) (m : Buffer) : Type 0 where
   pub slot : ℕ
@@ -169,7 +169,7 @@ pub record Used (s : State) (b : ℕ) (m : Buffer) : Type 0 where
   pub rest : allZero (drop (m .messageLength) (m .bytes)) ≡ true
 
 used-rules : (s : State) (b : ℕ) (m : Buffer) → (m .position .queue ≡ 0 → ⊥)
-    → all (usedBufferRules (queueAt s (slotIn (m .position))) (slotIn (m .position)) b m) ≡ true → Used s b m
+    → allTrue (usedBufferRules (queueAt s (slotIn (m .position))) (slotIn (m .position)) b m) ≡ true → Used s b m
 unfolding usedBufferRules
 used-rules s b m ne e =
     let (h1, (h2, (h3, (h4, (h5, (h6, h7)))))) = holds _ e in
@@ -189,7 +189,7 @@ unfolding soundBuffer
 buffer-rules s b m = go (eqb (m .position .queue) 0) refl
   where
     go : (t : Bool) → eqb (m .position .queue) 0 ≡ t
-        → (elim t [ true ↦ all (freeBufferRules m) | false ↦ all (usedBufferRules (queueAt s (slotIn (m .position))) (slotIn (m .position)) b m) ]) ≡ true
+        → (elim t [ true ↦ allTrue (freeBufferRules m) | false ↦ allTrue (usedBufferRules (queueAt s (slotIn (m .position))) (slotIn (m .position)) b m) ]) ≡ true
         → Unused m ⊎ Used s b m
     go true z e = inl (record { queue = eqb-true _ _ z; rules = e })
     go false z e = inr (used-rules s b m (eqb-false _ _ z) e)
@@ -212,7 +212,7 @@ used-sound s b m u =
 -- ---- Tasks
 
 pub record Ready (w : Task) : Type 0 where
-  pub rules : all (taskRules w) ≡ true
+  pub rules : allTrue (taskRules w) ≡ true
   pub state : w .state ≡ 0
   pub queue : w .position .queue ≡ 0
   pub rank : w .position .rank ≡ 0
@@ -221,7 +221,7 @@ pub record Ready (w : Task) : Type 0 where
   pub messageLength : w .messageLength ≤ 120
 
 pub record Waiting (s : State) (t : ℕ) (w : Task) : Type 0 where
-  pub rules : all (taskRules w) ≡ true
+  pub rules : allTrue (taskRules w) ≡ true
   pub state : w .state ≡ 1
   pub slot : ℕ
   pub queue : w .position .queue ≡ suc slot
@@ -231,8 +231,8 @@ pub record Waiting (s : State) (t : ℕ) (w : Task) : Type 0 where
   pub status : w .status ≡ WAITING
   pub messageLength : w .messageLength ≡ 0
 
-waiting-rules : (s : State) (t : ℕ) (w : Task) → all (taskRules w) ≡ true → w .state ≡ 1
-    → all (waitingTaskRules (queueAt s (slotIn (w .position))) (slotIn (w .position)) t w) ≡ true → Waiting s t w
+waiting-rules : (s : State) (t : ℕ) (w : Task) → allTrue (taskRules w) ≡ true → w .state ≡ 1
+    → allTrue (waitingTaskRules (queueAt s (slotIn (w .position))) (slotIn (w .position)) t w) ≡ true → Waiting s t w
 unfolding waitingTaskRules
 waiting-rules s t w r z e =
     let (h1, (h2, (h3, (h4, (h5, (h6, h7)))))) = holds _ e in
@@ -249,7 +249,7 @@ waiting-rules s t w r z e =
       messageLength = eqb-true _ _ h6;
     }
 
-ready-rules : (w : Task) → all (taskRules w) ≡ true → all (readyTaskRules w) ≡ true → Ready w
+ready-rules : (w : Task) → allTrue (taskRules w) ≡ true → allTrue (readyTaskRules w) ≡ true → Ready w
 unfolding readyTaskRules
 ready-rules w r e =
     let (h1, (h2, (h3, (h4, (h5, (h6, h7)))))) = holds _ e in
@@ -267,8 +267,8 @@ pub task-rules : (s : State) (t : ℕ) (w : Task) → soundTask s t w ≡ true �
 unfolding soundTask
 task-rules s t w e = let (r, f) = both _ _ e in go (isWaiting w) refl r f
   where
-    go : (b : Bool) → isWaiting w ≡ b → all (taskRules w) ≡ true
-        → (elim b [ true ↦ all (waitingTaskRules (queueAt s (slotIn (w .position))) (slotIn (w .position)) t w) | false ↦ all (readyTaskRules w) ]) ≡ true
+    go : (b : Bool) → isWaiting w ≡ b → allTrue (taskRules w) ≡ true
+        → (elim b [ true ↦ allTrue (waitingTaskRules (queueAt s (slotIn (w .position))) (slotIn (w .position)) t w) | false ↦ allTrue (readyTaskRules w) ]) ≡ true
         → Ready w ⊎ Waiting s t w
     go true z r e = inr (waiting-rules s t w r (eqb-true _ _ z) e)
     go false z r e = inl (ready-rules w r e)

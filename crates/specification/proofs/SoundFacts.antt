@@ -9,7 +9,7 @@ use mathlib.Core.List.{List, [], _∷_}
 use lib.Dec.{eqb, leb, ltb}
 use lib.ListN.{length, getD}
 use borrow.Author.Tests.{eqb-true, eqb-false, ltb-true, lt-ltb, eq-eqb, ne-eqb, leb-true, le-leb}
-use Rattle.ranks.specs.Lists.{all, mapWithIndex, range, _implies_}
+use Rattle.ranks.specs.Lists.{allTrue, mapWithIndex, numbersFrom, _implies_}
 use Rattle.records.specs.Split.{shareCount, shareLimit}
 use Rattle.ranks.specs.Position.{Position, inQueue}
 use Rattle.records.specs.Records.{Queue, Buffer, Task, State, queueAt, bufferAt, taskAt, freeQueue, freeBuffer, freshTask, isLive, hasPriority}
@@ -73,7 +73,7 @@ module _ (s : State) (z : Sized s) where
         limit =
             λ p h.
             subst (λ (k : ℕ). limits s k ≤ shareLimit k) (at-range 0 shareCount p 0 (omega arith) ∙ zero-add p)
-            (leb-true _ _ (every-at (λ i p. leb (limits s p) (shareLimit p)) (range 0 shareCount) 0 lims p (omega (arith, length-range 0 shareCount))));
+            (leb-true _ _ (every-at (λ i p. leb (limits s p) (shareLimit p)) (numbersFrom 0 shareCount) 0 lims p (omega (arith, length-range 0 shareCount))));
         buffer = λ b h. every-at (λ b m. soundBuffer s b m) (s .pool) (freeBuffer) pool b (omega (arith, z .pool));
         messages = λ i h. ⊎-elim (λ l. messages-of i l (rank ranks i h l)) (λ e. no-messages pool i e) (kind queues i h);
         waiters = λ i h. ⊎-elim (λ l. waiters-of i l (rank ranks i h l)) (λ e. no-waiters tasks i e) (kind queues i h);
@@ -85,10 +85,10 @@ module _ (s : State) (z : Sized s) where
       }
     where
       -- a queue is live or free
-      kind : all (mapWithIndex (λ i q. soundQueue q) (s .queues)) ≡ true → (i : ℕ) → i < 16 → Live (queueAt s i) ⊎ Free (queueAt s i)
+      kind : allTrue (mapWithIndex (λ i q. soundQueue q) (s .queues)) ≡ true → (i : ℕ) → i < 16 → Live (queueAt s i) ⊎ Free (queueAt s i)
       kind e i h = queue-rules _ (every-at (λ i q. soundQueue q) (s .queues) (freeQueue 0) e i (omega (arith, z .queues)))
 
-      rank : all (mapWithIndex (λ i q. isLive q implies soundRanks s i q) (s .queues)) ≡ true → (i : ℕ) → i < 16 → Live (queueAt s i)
+      rank : allTrue (mapWithIndex (λ i q. isLive q implies soundRanks s i q) (s .queues)) ≡ true → (i : ℕ) → i < 16 → Live (queueAt s i)
           → soundRanks s i (queueAt s i) ≡ true
       rank e i h l =
           implied (every-at (λ i q. isLive q implies soundRanks s i q) (s .queues) (freeQueue 0) e i (omega (arith, z .queues))) (eq-eqb _ _ (l .live))
@@ -112,14 +112,14 @@ module _ (s : State) (z : Sized s) where
       names-live : (i slot : ℕ) → suc slot ≡ suc i → queueAt s slot .live ≡ 1 → queueAt s i .live ≡ 1
       names-live i slot e l = subst (λ (k : ℕ). queueAt s k .live ≡ 1) (let a : slot ≡ i = omega arith in a) l
 
-      no-messages : all (mapWithIndex (λ b m. soundBuffer s b m) (s .pool)) ≡ true → (i : ℕ) → Free (queueAt s i)
+      no-messages : allTrue (mapWithIndex (λ b m. soundBuffer s b m) (s .pool)) ≡ true → (i : ℕ) → Free (queueAt s i)
           → Ranked 64 (λ b. bufferAt s b .position) i (queueAt s i .pending)
       no-messages e i f =
           none-in 64 (λ b. bufferAt s b .position) i _ f (f .pending)
           (λ b h q. ⊎-elim (λ u. absurd (let a = u .queue in omega arith)) (λ u. names-live i (u .slot) (sym (u .queue) ∙ q) (u .live))
           (buffer-rules s b _ (every-at (λ b m. soundBuffer s b m) (s .pool) freeBuffer e b (omega (arith, z .pool)))))
 
-      no-waiters : all (mapWithIndex (λ t w. soundTask s t w) (s .tasks)) ≡ true → (i : ℕ) → Free (queueAt s i)
+      no-waiters : allTrue (mapWithIndex (λ t w. soundTask s t w) (s .tasks)) ≡ true → (i : ℕ) → Free (queueAt s i)
           → Ranked 32 (λ t. taskAt s t .position) i (queueAt s i .waiters)
       no-waiters e i f =
           none-in 32 (λ t. taskAt s t .position) i _ f (f .waiters)
@@ -132,7 +132,7 @@ is-sound s g =
     held _ (
       every-from (λ i q. soundQueue q) (s .queues) (freeQueue 0) (λ i h. g .queue i (omega (arith, z .queues))),
       (
-        every-from (λ i p. leb (limits s p) (shareLimit p)) (range 0 shareCount) 0
+        every-from (λ i p. leb (limits s p) (shareLimit p)) (numbersFrom 0 shareCount) 0
             (λ i h.
             let lt : i < shareCount = omega (arith, length-range 0 shareCount) in
             subst (λ (k : ℕ). leb (limits s k) (shareLimit k) ≡ true) (sym (at-range 0 shareCount i 0 lt ∙ zero-add i)) (le-leb _ _ (g .limit i (omega arith)))),

@@ -1,6 +1,6 @@
 -- Document 01: "Broadcast".
 use Rattle.ranks.specs.Prelude.{ℕ, List, [], _∷_}
-use Rattle.ranks.specs.Lists.{mapWithIndex, count, mask}
+use Rattle.ranks.specs.Lists.{mapWithIndex, countTrue, mask}
 use Rattle.records.specs.Records.{State}
 use Rattle.records.specs.Changes.{atIndex, withWaiters, withMessage}
 use Rattle.records.specs.Status.{SUCCESSFUL, INVALID-SIZE}
@@ -15,7 +15,7 @@ refusals s slot message = (badSize s slot message ⇒ INVALID-SIZE) ∷ []
 -- "Every waiter gets the message; nothing is ever queued. Value: the number of tasks unblocked, which is the ones in the mask."
 unfoldable pub effect : State → (slot : ℕ) (message : List ℕ) → Outcome State
 effect s slot message =
-    outcome SUCCESSFUL (count (waitersOf s slot)) (mask (waitersOf s slot))
+    outcome SUCCESSFUL (countTrue (waitersOf s slot)) (mask (waitersOf s slot))
     (record {
       queues = mapWithIndex (atIndex slot (withWaiters 0)) (s .queues);
       pool = s .pool;

@@ -1,6 +1,6 @@
 -- Document 01, "Runs": "A call is its directive, its caller and its arguments, with a message's bytes."
 use Rattle.ranks.specs.Prelude.{ℕ, Bool, true, List, [], _∷_, map, _&&_, ltb}
-use Rattle.ranks.specs.Lists.{all}
+use Rattle.ranks.specs.Lists.{allTrue}
 
 -- what is done to a queue that is named by its id
 pub data Operation : Type 0 where
@@ -31,16 +31,16 @@ isByte n = ltb n 256
 
 unfoldable pub operationInRange : Operation → Bool
 operationInRange delete = true
-operationInRange (send message) = all (map isByte message)
-operationInRange (urgent message) = all (map isByte message)
-operationInRange (broadcast message) = all (map isByte message)
-operationInRange (receive option ticks) = all (map isWord (option ∷ ticks ∷ []))
+operationInRange (send message) = allTrue (map isByte message)
+operationInRange (urgent message) = allTrue (map isByte message)
+operationInRange (broadcast message) = allTrue (map isByte message)
+operationInRange (receive option ticks) = allTrue (map isWord (option ∷ ticks ∷ []))
 operationInRange getNumberPending = true
 operationInRange flush = true
 
 unfoldable pub directiveInRange : Directive → Bool
-directiveInRange (create name limit maxSize attributes) = all (map isWord (name ∷ limit ∷ maxSize ∷ attributes ∷ []))
-directiveInRange (ident name share) = all (map isWord (name ∷ share ∷ []))
+directiveInRange (create name limit maxSize attributes) = allTrue (map isWord (name ∷ limit ∷ maxSize ∷ attributes ∷ []))
+directiveInRange (ident name share) = allTrue (map isWord (name ∷ share ∷ []))
 directiveInRange (onQueue id operation) = isWord id && operationInRange operation
 
 unfoldable pub argumentsInRange : Call → Bool

@@ -1,7 +1,7 @@
 -- Document 01, "Cases on each side": W1 to W14, and further cases, as one list. A case is a run from fresh tables: each call with the
 -- answer expected, and bytes expected in the tables after it.
 use Rattle.ranks.specs.Prelude.{ℕ, _+_, _*_, List, [], _∷_, _++_, map, length, replicate}
-use Rattle.ranks.specs.Lists.{range}
+use Rattle.ranks.specs.Lists.{numbersFrom}
 use Rattle.ranks.specs.Table.{slice}
 use Rattle.records.specs.Layout.{queueWidth, bufferWidth, taskWidth}
 use Rattle.records.specs.Bytes.{Tables}
@@ -67,7 +67,7 @@ case priorities events fields = record { priorities = priorities; events = event
 
 -- the replay program's priorities: "priority t+1 for task t"
 abbrev rising : List ℕ
-rising = range 1 32
+rising = numbersFrom 1 32
 
 infix 70 _gives_
 abbrev pub _gives_ : Call → Answer → Event
@@ -388,12 +388,12 @@ messageCases =
     (inTask 1 0 (0 ∷ 0 ∷ 0 ∷ 2 ∷ 0 ∷ 4 ∷ zeros 10 ++ (1 ∷ 0 ∷ 255 ∷ 0 ∷ [])) ∷ [])
     -- M5 received bytes beyond the length stay: after messages of 120, 4, 3, 2 and 1 bytes, by receive and to a waiter.
     ∷ case rising
-    (createBy 0 2 120 0 gives value 16 ∷ sendBy 0 16 (range 1 120) gives done ∷ pollBy 1 16 gives value 120
+    (createBy 0 2 120 0 gives value 16 ∷ sendBy 0 16 (numbersFrom 1 120) gives done ∷ pollBy 1 16 gives value 120
     ∷ sendBy 0 16 (201 ∷ 202 ∷ 203 ∷ 204 ∷ []) gives done ∷ pollBy 1 16 gives value 4
     ∷ waitBy 1 16 0 gives waits ∷ sendBy 0 16 (211 ∷ 212 ∷ 213 ∷ []) gives wakes 2
     ∷ waitBy 1 16 0 gives waits ∷ urgentBy 0 16 (221 ∷ 222 ∷ []) gives wakes 2
     ∷ waitBy 1 16 0 gives waits ∷ broadcastBy 0 16 (231 ∷ []) gives answer 0 1 2 ∷ [])
-    (inTask 1 0 (0 ∷ 0 ∷ 0 ∷ 2 ∷ 0 ∷ 1 ∷ zeros 10 ++ (231 ∷ 222 ∷ 213 ∷ 204 ∷ range 5 116)) ∷ [])
+    (inTask 1 0 (0 ∷ 0 ∷ 0 ∷ 2 ∷ 0 ∷ 1 ∷ zeros 10 ++ (231 ∷ 222 ∷ 213 ∷ 204 ∷ numbersFrom 5 116)) ∷ [])
     -- M6 a wait sets the length to 0 and leaves the receive buffer, through a timeout and a delete.
     ∷ case rising
     (createBy 0 2 8 0 gives value 16 ∷ sendBy 0 16 AB gives done ∷ pollBy 1 16 gives value 2 ∷ waitBy 1 16 1 gives waits

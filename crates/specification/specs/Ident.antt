@@ -1,6 +1,6 @@
 -- Document 01: "Ident (name, share)".
 use Rattle.ranks.specs.Prelude.{ℕ, Bool, _||_, List, [], _∷_, eqb, leb}
-use Rattle.ranks.specs.Lists.{all, findIndex}
+use Rattle.ranks.specs.Lists.{allTrue, findIndex}
 use Rattle.records.specs.Split.{shareCount, shareOfSlot, shareOfTask}
 use Rattle.records.specs.Layout.{slotCount, idOf}
 use Rattle.records.specs.Records.{Queue, State, isLive, isOpen, queueAt}
@@ -10,7 +10,7 @@ use Rattle.specification.specs.Answer.{Outcome, outcome, Refusal, _⇒_}
 -- slot `i` is a live queue of the share with the name, and OPEN if the share is foreign
 abbrev pub isNamed : (caller name share i : ℕ) → Queue → Bool
 isNamed caller name share i q =
-    all (isLive q ∷ eqb (shareOfSlot i) share ∷ eqb (q .name) name ∷ (eqb share (shareOfTask caller) || isOpen q) ∷ [])
+    allTrue (isLive q ∷ eqb (shareOfSlot i) share ∷ eqb (q .name) name ∷ (eqb share (shareOfTask caller) || isOpen q) ∷ [])
 
 -- "Lowest live slot of that share with the name; in a foreign share only OPEN ones"; 16 if there is none
 unfoldable pub named : State → (caller name share : ℕ) → ℕ

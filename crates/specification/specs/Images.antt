@@ -2,7 +2,7 @@
 -- what names no live queue breaks the rules on that queue too), and calls on images that no short run reaches. An image is given by the
 -- bytes in which it differs from fresh tables.
 use Rattle.ranks.specs.Prelude.{ℕ, List, [], _∷_, _++_, map, replicate}
-use Rattle.ranks.specs.Lists.{mapWithIndex, range}
+use Rattle.ranks.specs.Lists.{mapWithIndex, numbersFrom}
 use Rattle.ranks.specs.Table.{spliced}
 use Rattle.records.specs.Records.{State, fresh}
 use Rattle.records.specs.Bytes.{decodeQueue, encodeQueue, decodeBuffer, encodeBuffer, decodeTask, encodeTask}
@@ -41,9 +41,9 @@ unfoldable pub base : Image
 base =
     -- slot 0 holds three messages, whose ranks are not in the order of their buffers
     inQueueRecord 0 0 (1 ∷ 0 ∷ 4 ∷ 10 ∷ 1 ∷ 0 ∷ 3 ∷ 0 ∷ 65 ∷ [])
-    ∷ inBuffer 0 0 (1 ∷ 1 ∷ 1 ∷ zeros 5 ++ range 1 1)
-    ∷ inBuffer 1 0 (1 ∷ 2 ∷ 10 ∷ zeros 5 ++ range 11 10)
-    ∷ inBuffer 5 0 (1 ∷ 0 ∷ 2 ∷ zeros 5 ++ range 21 2)
+    ∷ inBuffer 0 0 (1 ∷ 1 ∷ 1 ∷ zeros 5 ++ numbersFrom 1 1)
+    ∷ inBuffer 1 0 (1 ∷ 2 ∷ 10 ∷ zeros 5 ++ numbersFrom 11 10)
+    ∷ inBuffer 5 0 (1 ∷ 0 ∷ 2 ∷ zeros 5 ++ numbersFrom 21 2)
     -- slot 1 is PRIORITY; tasks 2, 6, 4 and 3 wait, of priorities 3, 5, 5 and 7
     ∷ inQueueRecord 1 0 (1 ∷ 1 ∷ 9 ∷ 120 ∷ 2 ∷ 0 ∷ 0 ∷ 4 ∷ 66 ∷ [])
     ∷ inTask 2 0 (1 ∷ 2 ∷ 0 ∷ 3 ∷ 14 ∷ 0 ∷ 0 ∷ 0 ∷ 1 ∷ [])
@@ -60,20 +60,20 @@ base =
     -- slot 8 is empty, slot 9 full
     ∷ inQueueRecord 8 0 (1 ∷ 0 ∷ 2 ∷ 5 ∷ 0 ∷ 1 ∷ 0 ∷ 0 ∷ 68 ∷ [])
     ∷ inQueueRecord 9 0 (1 ∷ 3 ∷ 1 ∷ 1 ∷ 1 ∷ 0 ∷ 1 ∷ 0 ∷ 0 ∷ 0 ∷ 0 ∷ 128 ∷ [])
-    ∷ inBuffer 47 0 (10 ∷ 0 ∷ 1 ∷ zeros 5 ++ range 255 1)
+    ∷ inBuffer 47 0 (10 ∷ 0 ∷ 1 ∷ zeros 5 ++ numbersFrom 255 1)
     -- slot 12 holds a message of 120 bytes
     ∷ inQueueRecord 12 0 (1 ∷ 3 ∷ 16 ∷ 120 ∷ 1 ∷ 0 ∷ 1 ∷ 0 ∷ 69 ∷ [])
-    ∷ inBuffer 63 0 (13 ∷ 0 ∷ 120 ∷ zeros 5 ++ range 1 120)
+    ∷ inBuffer 63 0 (13 ∷ 0 ∷ 120 ∷ zeros 5 ++ numbersFrom 1 120)
     -- ready tasks that timed out, that lost their queue, and that received 120 bytes
     ∷ inTask 5 3 (255 ∷ 7 ∷ [])
-    ∷ inTask 8 3 (1 ∷ 8 ∷ 6 ∷ zeros 10 ++ range 1 120)
-    ∷ inTask 31 5 (120 ∷ zeros 10 ++ range 1 120)
+    ∷ inTask 8 3 (1 ∷ 8 ∷ 6 ∷ zeros 10 ++ numbersFrom 1 120)
+    ∷ inTask 31 5 (120 ∷ zeros 10 ++ numbersFrom 1 120)
     ∷ []
 
 -- all 32 tasks wait in one OPEN queue, for one tick
 unfoldable pub allWait : Image
 allWait = inQueueRecord 0 0 (1 ∷ 2 ∷ 1 ∷ 1 ∷ 1 ∷ 0 ∷ 0 ∷ 32 ∷ 81 ∷ [])
-    ∷ map (λ t. inTask t 0 (1 ∷ 1 ∷ t ∷ 9 ∷ 14 ∷ 0 ∷ 0 ∷ 0 ∷ 1 ∷ [])) (range 0 32)
+    ∷ map (λ t. inTask t 0 (1 ∷ 1 ∷ t ∷ 9 ∷ 14 ∷ 0 ∷ 0 ∷ 0 ∷ 1 ∷ [])) (numbersFrom 0 32)
 
 unfoldable pub soundImages : List Image
 soundImages = [] ∷ base ∷ allWait ∷ []
@@ -220,7 +220,7 @@ imageCases =
     ∷ on base
     (pollBy 1 16 gives value 2 ∷ pollBy 8 16 gives refused 2 ∷ pollBy 31 28 gives value 120 ∷ pollBy 7 16 gives value 1
     ∷ pollBy 8 25 gives value 1 ∷ [])
-    (inTask 1 16 (21 ∷ 22 ∷ []) ∷ inTask 7 16 (1 ∷ []) ∷ inTask 8 4 (0 ∷ 1 ∷ zeros 10 ++ (255 ∷ range 2 119))
+    (inTask 1 16 (21 ∷ 22 ∷ []) ∷ inTask 7 16 (1 ∷ []) ∷ inTask 8 4 (0 ∷ 1 ∷ zeros 10 ++ (255 ∷ numbersFrom 2 119))
     ∷ inBuffer 1 0 (1 ∷ 0 ∷ 10 ∷ []) ∷ inBuffer 5 0 (zeros 128) ∷ inBuffer 47 0 (zeros 128) ∷ inBuffer 63 0 (zeros 128) ∷ [])
     -- X7 a tick on an image for each part of soundness, computed on records.
     ∷ map (λ image. on image (tick gives refused 10 ∷ []) [])

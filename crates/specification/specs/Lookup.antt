@@ -1,6 +1,6 @@
 -- What the directives ask of the tables, and how a task leaves a queue.
 use Rattle.ranks.specs.Prelude.{ℕ, _-_, Bool, true, false, _||_, not, List, [], _∷_, eqb, ltb}
-use Rattle.ranks.specs.Lists.{if_then_else_, mapWithIndex, all}
+use Rattle.ranks.specs.Lists.{if_then_else_, mapWithIndex, allTrue}
 use Rattle.ranks.specs.Position.{inQueue}
 use Rattle.ranks.specs.Steps.{takenOut, recordAt}
 use Rattle.records.specs.Split.{shareOfSlot, shareOfTask}
@@ -12,7 +12,7 @@ use Rattle.records.specs.Changes.{atIndex, withWaiters, moveTask}
 -- The queue in the id's slot is `q`.
 abbrev pub usableQueue : Queue → (caller id : ℕ) → Bool
 usableQueue q caller id =
-    all
+    allTrue
     (isLive q
     ∷ eqb (generationOf id) (q .generation)
     ∷ (eqb (shareOfSlot (slotOf id)) (shareOfTask caller) || isOpen q)

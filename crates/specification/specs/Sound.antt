@@ -1,6 +1,6 @@
 -- Document 01, "Sound tables", rule by rule. "Tables are sound exactly if all of this holds."
 use Rattle.ranks.specs.Prelude.{ℕ, pred, Bool, true, false, _&&_, _||_, List, [], _∷_, eqb, leb, ltb, drop}
-use Rattle.ranks.specs.Lists.{if_then_else_, _implies_, mapWithIndex, all, every, sum, allZero, range}
+use Rattle.ranks.specs.Lists.{if_then_else_, _implies_, mapWithIndex, allTrue, every, sumOf, allZero, numbersFrom}
 use Rattle.ranks.specs.Position.{Position, inQueue}
 use Rattle.ranks.specs.Steps.{ranked}
 use Rattle.records.specs.Split.{shareCount, shareOfSlot, shareOfBuffer, shareOfTask, shareLimit}
@@ -36,7 +36,7 @@ liveQueueRules q =
     ∷ []
 
 unfoldable pub soundQueue : Queue → Bool
-soundQueue q = if isLive q then all (liveQueueRules q) else all (freeQueueRules q)
+soundQueue q = if isLive q then allTrue (liveQueueRules q) else allTrue (freeQueueRules q)
 
 -- what the queue in slot `i` adds to the limits of the share
 abbrev pub limitIn : (share i : ℕ) → Queue → ℕ
@@ -44,11 +44,11 @@ limitIn share i q = if eqb (shareOfSlot i) share && isLive q then q .limit else 
 
 -- the sum of the limits of a share's live queues
 unfoldable pub limits : State → (share : ℕ) → ℕ
-limits s share = sum (mapWithIndex (limitIn share) (s .queues))
+limits s share = sumOf (mapWithIndex (limitIn share) (s .queues))
 
 -- "In each share the limits of live queues sum to at most 16."
 unfoldable pub soundLimits : State → Bool
-soundLimits s = every (λ i share. leb (limits s share) (shareLimit share)) (range 0 shareCount)
+soundLimits s = every (λ i share. leb (limits s share) (shareLimit share)) (numbersFrom 0 shareCount)
 
 -- the slot of the queue that a position names
 abbrev pub slotIn : Position → ℕ
@@ -73,7 +73,7 @@ usedBufferRules q slot b m =
 unfoldable pub soundBuffer : State → ℕ → Buffer → Bool
 soundBuffer s b m =
     let slot = slotIn (m .position) in
-    if eqb (m .position .queue) 0 then all (freeBufferRules m) else all (usedBufferRules (queueAt s slot) slot b m)
+    if eqb (m .position .queue) 0 then allTrue (freeBufferRules m) else allTrue (usedBufferRules (queueAt s slot) slot b m)
 
 -- "With PRIORITY, priorities never fall as ranks rise."
 unfoldable pub byPriority : State → (slot : ℕ) → Bool
@@ -89,7 +89,7 @@ byPriority s slot =
 -- (A ready task is in no queue, as the last rule says.)
 unfoldable pub soundRanks : State → (slot : ℕ) → Queue → Bool
 soundRanks s slot q =
-    all
+    allTrue
     (ranked slot (q .pending) (mapWithIndex (λ b m. m .position) (s .pool))
     ∷ ranked slot (q .waiters) (mapWithIndex (λ t w. w .position) (s .tasks))
     ∷ (hasPriority q implies byPriority s slot)
@@ -125,11 +125,11 @@ waitingTaskRules q slot t w =
 unfoldable pub soundTask : State → ℕ → Task → Bool
 soundTask s t w =
     let slot = slotIn (w .position) in
-    all (taskRules w) && (if isWaiting w then all (waitingTaskRules (queueAt s slot) slot t w) else all (readyTaskRules w))
+    allTrue (taskRules w) && (if isWaiting w then allTrue (waitingTaskRules (queueAt s slot) slot t w) else allTrue (readyTaskRules w))
 
 unfoldable pub sound : State → Bool
 sound s =
-    all
+    allTrue
     (every (λ slot q. soundQueue q) (s .queues)
     ∷ soundLimits s
     ∷ every (λ b m. soundBuffer s b m) (s .pool)

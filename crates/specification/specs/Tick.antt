@@ -1,6 +1,6 @@
 -- Document 01: "Tick".
 use Rattle.ranks.specs.Prelude.{ℕ, _-_, Bool, true, false, _&&_, List, [], _∷_, eqb, leb}
-use Rattle.ranks.specs.Lists.{if_then_else_, mapWithIndex, count, mask, range}
+use Rattle.ranks.specs.Lists.{if_then_else_, mapWithIndex, countTrue, mask, numbersFrom}
 use Rattle.records.specs.Layout.{taskCount}
 use Rattle.records.specs.Records.{Task, State, isWaiting, taskAt}
 use Rattle.records.specs.Changes.{atIndex, withTicks, readyWith}
@@ -36,4 +36,4 @@ tickTasks s (t ∷ ts) = tickTasks (tickTask s t) ts
 unfoldable pub effect : State → Outcome State
 effect s =
     let expired = mapWithIndex (λ t w. expires w) (s .tasks) in
-    outcome SUCCESSFUL (count expired) (mask expired) (tickTasks s (range 0 taskCount))
+    outcome SUCCESSFUL (countTrue expired) (mask expired) (tickTasks s (numbersFrom 0 taskCount))

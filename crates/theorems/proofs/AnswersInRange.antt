@@ -10,7 +10,7 @@ use lib.Dec.{eqb}
 use lib.ListN.{length}
 use lib.Count.{ones}
 use borrow.Author.Tests.{leb-false, ltb-true}
-use Rattle.ranks.specs.Lists.{if_then_else_, mapWithIndex, mask, count}
+use Rattle.ranks.specs.Lists.{if_then_else_, mapWithIndex, mask, countTrue}
 use Rattle.ranks.specs.Position.{inQueue}
 use Rattle.records.specs.Split.{shareOfTask}
 use Rattle.records.specs.Layout.{slotOf, idOf}
@@ -55,7 +55,7 @@ module _ (s : State) (g : SoundFacts s) where
   tasks-mask F =
       subst (λ (n : ℕ). mask (mapWithIndex F (s .tasks)) < 2 ^ n) (length-mapped F (s .tasks) ∙ g .sized .tasks) (mask-bound (mapWithIndex F (s .tasks)))
 
-  tasks-count : (F : ℕ → Task → Bool) → count (mapWithIndex F (s .tasks)) ≤ 32
+  tasks-count : (F : ℕ → Task → Bool) → countTrue (mapWithIndex F (s .tasks)) ≤ 32
   tasks-count F = omega (arith, count-bound (mapWithIndex F (s .tasks)), length-mapped F (s .tasks), g .sized .tasks)
 
   module _ (f : Encodable s) where

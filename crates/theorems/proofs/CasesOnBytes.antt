@@ -8,7 +8,7 @@ use lib.Dec.{ltb, leb}
 use lib.ListN.{length, take, drop}
 use lib.Seq.{take-take, drop-drop}
 use borrow.Author.Tests.{ltb-true, leb-true}
-use Rattle.ranks.specs.Lists.{all}
+use Rattle.ranks.specs.Lists.{allTrue}
 use Rattle.ranks.specs.Table.{slice}
 use Rattle.records.specs.Records.{State, queueAt, bufferAt, taskAt, fresh}
 use Rattle.records.specs.Bytes.{Tables, encode}
@@ -29,13 +29,13 @@ use Rattle.theorems.proofs.OnBytes.{queue-bytes, buffer-bytes, task-byt
 
 -- two functions that agree where a test is passed agree on a list of which all pass
 pub map-where : {A B : Type 0} (test : A → Bool) (f g : A → B) → ((a : A) → test a ≡ true → f a ≡ g a)
-    → (l : List A) → all (map test l) ≡ true → map f l ≡ map g l
-unfolding all
+    → (l : List A) → allTrue (map test l) ≡ true → map f l ≡ map g l
+unfolding allTrue
 map-where test f g h [] e = refl
 map-where {B = B} test f g h (a ∷ l) e = go (test a) refl e (map-where test f g h l)
   where
-    go : (b : Bool) → test a ≡ b → (elim b [ true ↦ all (map test l) | false ↦ false ]) ≡ true
-        → (all (map test l) ≡ true → map f l ≡ map g l) → map f (a ∷ l) ≡ map g (a ∷ l)
+    go : (b : Bool) → test a ≡ b → (elim b [ true ↦ allTrue (map test l) | false ↦ false ]) ≡ true
+        → (allTrue (map test l) ≡ true → map f l ≡ map g l) → map f (a ∷ l) ≡ map g (a ∷ l)
     go true p e ih = ap₂ {C = List B} (λ x xs. x ∷ xs) (h a p) (ih e)
     go false p e ih = absurd (false≢true e)
 
@@ -74,7 +74,7 @@ seenFrom t events fields =
     record { events = r .events; bytes = map (fieldBytes (r .tables)) fields }
 
 pub seen-from : (s : State) → SoundFacts s → Encodable s → (events : List Event) (fields : List Field)
-    → all (map argumentsInRange (map (λ (e : Event). e .call) events)) ≡ true → all (map fieldInRange fields) ≡ true
+    → allTrue (map argumentsInRange (map (λ (e : Event). e .call) events)) ≡ true → allTrue (map fieldInRange fields) ≡ true
     → seenFrom (encode s) events fields ≡ observedFrom s events fields
 unfolding observedFrom
 seen-from s g f events fields args within =

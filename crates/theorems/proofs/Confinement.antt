@@ -8,7 +8,7 @@ use mathlib.Core.List.{List, [], _∷_, _++_}
 use lib.Dec.{leb}
 use lib.ListN.{getD}
 use borrow.Author.Tests.{eqb-true, ltb-false, leb-false, not-true}
-use Rattle.ranks.specs.Lists.{if_then_else_, mapWithIndex, range, within}
+use Rattle.ranks.specs.Lists.{if_then_else_, mapWithIndex, numbersFrom, within}
 use Rattle.ranks.specs.Position.{Position, noQueue}
 use Rattle.records.specs.Layout.{slotOf}
 use Rattle.records.specs.Split.{shareOfSlot, shareOfTask}
@@ -184,7 +184,7 @@ module _ {x : ℕ} {s : State} (p : Confined x s) where
       create-confined p _ name limit maxSize attributes (closed-attributes attributes (not-true _ k) (ltb-false _ _ a))
   effect-confined (call caller (ident name share)) k n = p .confined
   effect-confined (call caller (onQueue id operation)) k n = operation-confined p caller (slotOf id) (eqb-true _ _ k) operation
-  effect-confined tick k n = tickTasks-confined (range 0 32) (below-range 32 0 32 (omega arith)) p .confined
+  effect-confined tick k n = tickTasks-confined (numbersFrom 0 32) (below-range 32 0 32 (omega arith)) p .confined
 
   pub call-confined : (c : Call) → isConfined x c ≡ true → Confined x (callOnRecords s c .after)
   unfolding callOnRecords

@@ -6,7 +6,7 @@ use mathlib.Core.Bool.{Bool, true, false, not, _&&_, true≢false, false≢true}
 use mathlib.Core.Logic.{_⊎_, inl, inr, ⊎-elim, _↔_}
 use mathlib.Core.List.{List, [], _∷_, _++_, map}
 use lib.Dec.{eqb, leb, ltb}
-use Rattle.ranks.specs.Lists.{if_then_else_, all}
+use Rattle.ranks.specs.Lists.{if_then_else_, allTrue}
 use Rattle.records.specs.Split.{shareOfTask}
 use Rattle.records.specs.Layout.{slotOf}
 use Rattle.records.specs.Records.{State}
@@ -121,10 +121,10 @@ call-statuses s c = go c (weaken Own Refuses (λ n p. (p .0, (let h = p .1 in om
 -- ---- 0 or 14
 
 abbrev noneHolds : List Refusal → Bool
-noneHolds rs = all (map (λ (r : Refusal). not (r .holds)) rs)
+noneHolds rs = allTrue (map (λ (r : Refusal). not (r .holds)) rs)
 
 to-none : (rs : List Refusal) → noneHolds rs ≡ true → None rs
-unfolding all
+unfolding allTrue
 to-none [] e = tt
 to-none (r ∷ rs) e = go (r .holds) refl e (to-none rs)
   where
@@ -133,7 +133,7 @@ to-none (r ∷ rs) e = go (r .holds) refl e (to-none rs)
     go false h e ih = (h, ih e)
 
 from-none : (rs : List Refusal) → None rs → noneHolds rs ≡ true
-unfolding all
+unfolding allTrue
 from-none [] n = refl
 from-none (r ∷ rs) n = rw (n .0) (from-none rs (n .1))
 

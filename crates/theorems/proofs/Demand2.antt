@@ -8,7 +8,7 @@ use mathlib.Core.List.{List, [], _∷_, _++_, map}
 use lib.Dec.{eqb}
 use lib.Count.{ones}
 use borrow.Author.Tests.{ne-eqb}
-use Rattle.ranks.specs.Lists.{all, mapWithIndex}
+use Rattle.ranks.specs.Lists.{allTrue, mapWithIndex}
 use Rattle.records.specs.Records.{State, queueAt, bufferAt, taskAt, fresh}
 use Rattle.records.specs.Bytes.{Tables, decode}
 use Rattle.records.specs.Status.{CORRUPT, BAD-CALLER, BAD-SHAPE}
@@ -19,7 +19,7 @@ use Rattle.specification.specs.Lookup.{waitersOf}
 use Rattle.specification.specs.Step.{badCaller, commonRefusals, ownRefusals, operationEffect, effect, step}
 use Rattle.specification.specs.Run.{Event, run, freshTables, goodPriorities}
 use Rattle.theorems.specs.SoundTables.{SoundTables, NotRefused}
-use Rattle.theorems.specs.Demands.{Layout, issued, distinct, Demand2}
+use Rattle.theorems.specs.Demands.{LayoutHolds, issued, distinct, Demand2}
 use Rattle.ranks.proofs.ByRank.{counted}
 use Rattle.records.proofs.Access.{ones-mask}
 use Rattle.records.proofs.EncodeDecode.{encode-decode}
@@ -42,7 +42,7 @@ use Rattle.specification.specs.Tick
 
 -- ---- The layout
 
-pub layout : Layout
+pub layout : LayoutHolds
 unfolding freshTables
 layout =
     record {
@@ -113,12 +113,12 @@ call-status s g tick =
     (refused-with (λ o. isSoundStatus (o .answer .status) ≡ true) s (ownRefusals s tick) (effect s tick) (own-neither s tick) neither (λ _. effect-status s tick))
 
 events-status : (calls : List Call) (s : State) → SoundFacts s
-    → all (map (λ (e : Event). isSoundStatus (e .answer .status)) (eventsOnRecords s calls)) ≡ true
-unfolding eventsOnRecords all
+    → allTrue (map (λ (e : Event). isSoundStatus (e .answer .status)) (eventsOnRecords s calls)) ≡ true
+unfolding eventsOnRecords allTrue
 events-status [] s g = refl
 events-status (c ∷ cs) s g = rw (call-status s g c) (events-status cs (callOnRecords s c .after) (call-sound s g c))
 
-module _ (ps : List ℕ) (calls : List Call) (good : goodPriorities ps ≡ true) (args : all (map argumentsInRange calls) ≡ true) where
+module _ (ps : List ℕ) (calls : List Call) (good : goodPriorities ps ≡ true) (args : allTrue (map argumentsInRange calls) ≡ true) where
   on : RunOnRecords (fresh ps) calls
   on = run-on-records calls (fresh ps) (fresh-sound ps (priorities ps good)) (fresh-fits ps good) args
 
@@ -126,10 +126,10 @@ module _ (ps : List ℕ) (calls : List Call) (good : goodPriorities ps ≡ true)
   unfolding freshTables
   run-ids-distinct = ap (λ (es : List Event). distinct (issued es)) (on .events) ∙ ids-distinct calls (fresh ps) (fresh-sound ps (priorities ps good)) .0
 
-  pub run-never-corrupt : all (map (λ (e : Event). isSoundStatus (e .answer .status)) (run (freshTables ps) calls .events)) ≡ true
+  pub run-never-corrupt : allTrue (map (λ (e : Event). isSoundStatus (e .answer .status)) (run (freshTables ps) calls .events)) ≡ true
   unfolding freshTables
   run-never-corrupt =
-      ap (λ (es : List Event). all (map (λ (e : Event). isSoundStatus (e .answer .status)) es)) (on .events)
+      ap (λ (es : List Event). allTrue (map (λ (e : Event). isSoundStatus (e .answer .status)) es)) (on .events)
       ∙ events-status calls (fresh ps) (fresh-sound ps (priorities ps good))
 
 -- ---- Put together

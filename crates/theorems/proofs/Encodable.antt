@@ -7,7 +7,7 @@ use mathlib.Core.List.{List, [], _∷_, map}
 use lib.Dec.{eqb, ltb}
 use lib.ListN.{length, getD, take, drop, replicate, length-append, length-drop, length-take}
 use borrow.Author.Tests.{ltb-true, leb-false, not-false}
-use Rattle.ranks.specs.Lists.{if_then_else_, mapWithIndex, all, range}
+use Rattle.ranks.specs.Lists.{if_then_else_, mapWithIndex, allTrue, numbersFrom}
 use Rattle.ranks.specs.Position.{Position, inQueue}
 use Rattle.records.specs.Split.{shareOfSlot, shareOfTask}
 use Rattle.records.specs.Layout.{slotOf}
@@ -266,7 +266,7 @@ module _ (s : State) (g : SoundFacts s) (f : Encodable s) where
   abbrev z : Sized s
   z = g .sized
 
-  sent : (caller id rank : ℕ) (message : List ℕ) → usable s caller id ≡ true → all (map (λ b. ltb b 256) message) ≡ true
+  sent : (caller id rank : ℕ) (message : List ℕ) → usable s caller id ≡ true → allTrue (map (λ b. ltb b 256) message) ≡ true
       → None (Submit.refusals s (slotOf id) message) → Message message
   sent caller id rank message u e n =
       record {
@@ -298,7 +298,7 @@ module _ (s : State) (g : SoundFacts s) (f : Encodable s) where
   effect-fits (call caller (ident name share)) (r, n) e = f
   effect-fits (call caller (onQueue id o)) (r, n) e =
       operation-fits caller id o (not-false _ (n .0)) (both (ltb id 4294967296) _ (both (ltb caller 4294967296) _ e .1) .1) (n .1)
-  effect-fits tick a e = tickTasks-fit s (range 0 32) g f (below-range 32 0 32 (omega arith))
+  effect-fits tick a e = tickTasks-fit s (numbersFrom 0 32) g f (below-range 32 0 32 (omega arith))
 
   pub call-fits : (c : Call) → argumentsInRange c ≡ true → Encodable (callOnRecords s c .after)
   unfolding callOnRecords

@@ -10,7 +10,7 @@ use mathlib.Core.List.{List, [], _∷_, map}
 use lib.Dec.{eqb}
 use lib.ListN.{length, getD, length-map}
 use borrow.Author.Tests.{eqb-true}
-use Rattle.ranks.specs.Lists.{all, allZero, count, mapWithIndex}
+use Rattle.ranks.specs.Lists.{allTrue, allZero, countTrue, mapWithIndex}
 use Rattle.ranks.specs.Position.{inQueue}
 use Rattle.ranks.specs.Table.{slice, byte, records}
 use Rattle.records.specs.Records.{Queue, Buffer, Task, State, queueAt, bufferAt, taskAt, freeQueue, freeBuffer, freshTask}
@@ -177,11 +177,11 @@ zeros-are-bytes (n ∷ l) e = go (eqb n 0) refl e (zeros-are-bytes l)
 zeros : {n : ℕ} {l : List ℕ} → length l ≡ n → allZero l ≡ true → ByteList n l
 zeros {l = l} e z = record { count = e; each = zeros-are-bytes l z }
 
-pub count-bound : (bs : List Bool) → count bs ≤ length bs
-unfolding count
+pub count-bound : (bs : List Bool) → countTrue bs ≤ length bs
+unfolding countTrue
 count-bound [] = omega arith
-count-bound (true ∷ bs) = let ih : count bs ≤ length bs = count-bound bs in omega arith
-count-bound (false ∷ bs) = let ih : count bs ≤ length bs = count-bound bs in omega arith
+count-bound (true ∷ bs) = let ih : countTrue bs ≤ length bs = count-bound bs in omega arith
+count-bound (false ∷ bs) = let ih : countTrue bs ≤ length bs = count-bound bs in omega arith
 
 module _ (s : State) (g : SoundFacts s) where
   -- the two tables of each queue's records

@@ -7,7 +7,7 @@ use mathlib.Core.List.{List, [], _∷_}
 use lib.Dec.{eqb}
 use lib.ListN.{length, getD, length-replicate, getD-replicate}
 use borrow.Author.Tests.{eqb-true, le-leb}
-use Rattle.ranks.specs.Lists.{sum, allZero, within}
+use Rattle.ranks.specs.Lists.{sumOf, allZero, within}
 use Rattle.records.specs.Split.{shareOfTask}
 use Rattle.records.specs.Records.{Queue, Buffer, Task, queueAt, bufferAt, taskAt, freeQueue, freeBuffer, freshTask, fresh}
 use Rattle.specification.specs.Sound.{limits, taskRules}
@@ -33,12 +33,12 @@ priorities ps e =
     let n : length ps ≡ 32 = eqb-true _ _ a in
     record { count = n; low = λ t h. bounds _ _ _ (every-at (λ t p. within 1 255 p) ps 0 b t (omega arith)) .0 }
 
-sum-zero : (l : List ℕ) → ((i : ℕ) → i < length l → getD l i 0 ≡ 0) → sum l ≡ 0
-unfolding sum
+sum-zero : (l : List ℕ) → ((i : ℕ) → i < length l → getD l i 0 ≡ 0) → sumOf l ≡ 0
+unfolding sumOf
 sum-zero [] h = refl
 sum-zero (n ∷ l) h =
     let a : n ≡ 0 = h 0 (omega arith) in
-    let ih : sum l ≡ 0 = sum-zero l (λ i lt. h (suc i) (omega arith)) in
+    let ih : sumOf l ≡ 0 = sum-zero l (λ i lt. h (suc i) (omega arith)) in
     omega arith
 
 module _ (ps : List ℕ) (pr : Priorities ps) where

@@ -8,7 +8,7 @@ use mathlib.Core.List.{List, [], _∷_, _++_}
 use lib.Dec.{eqb}
 use lib.ListN.{length, getD}
 use borrow.Author.Tests.{leb-false, ne-eqb}
-use Rattle.ranks.specs.Lists.{if_then_else_, mapWithIndex, range}
+use Rattle.ranks.specs.Lists.{if_then_else_, mapWithIndex, numbersFrom}
 use Rattle.records.specs.Split.{shareOfTask}
 use Rattle.records.specs.Layout.{slotOf, generationOf, idOf}
 use Rattle.records.specs.Records.{Queue, Task, State, queueAt, taskAt, freeQueue}
@@ -105,7 +105,7 @@ module _ (s : State) (g : SoundFacts s) where
   effect-grows (call caller (create name limit maxSize attributes)) = one-queue s _ z _ _ (λ q. omega arith) refl
   effect-grows (call caller (ident name share)) = same-queues s s refl
   effect-grows (call caller (onQueue id o)) = operation-grows caller (slotOf id) o
-  effect-grows tick = tickTasks-grows s (range 0 32) g (below-range 32 0 32 (omega arith))
+  effect-grows tick = tickTasks-grows s (numbersFrom 0 32) g (below-range 32 0 32 (omega arith))
 
   call-grows : (c : Call) → Grows s (callOnRecords s c .after)
   unfolding callOnRecords

@@ -7,7 +7,7 @@ use mathlib.Core.List.{List, [], _∷_, _++_, map}
 use lib.Dec.{ltb, leb}
 use lib.ListN.{length, getD, take, drop, replicate, length-append, length-take, length-drop}
 use borrow.Author.Tests.{ltb-true, leb-true}
-use Rattle.ranks.specs.Lists.{all, mapWithIndex}
+use Rattle.ranks.specs.Lists.{allTrue, mapWithIndex}
 use Rattle.ranks.specs.Table.{spliced}
 use Rattle.records.specs.Records.{Queue, Buffer, Task, State, freeQueue, freeBuffer, freshTask, queueAt, fresh}
 use Rattle.records.specs.Bytes.{Tables, decodeQueue, encodeQueue, decodeBuffer, encodeBuffer, decodeTask, encodeTask, decode, encode}
@@ -63,7 +63,7 @@ module _ (n : ℕ) (r new : List ℕ) (place : ℕ) (len : length r ≡ n) (insi
 
 -- a field that lies in its record, and is of bytes
 unfoldable writable : Field → Bool
-writable x = fieldInRange x && all (map (λ b. ltb b 256) (x .bytes))
+writable x = fieldInRange x && allTrue (map (λ b. ltb b 256) (x .bytes))
 
 record Writable (x : Field) : Type 0 where
   inside : x .place + length (x .bytes) ≤ widthOf (x .table)
@@ -131,42 +131,42 @@ module _ (s : State) (r : FieldsInRange s) (n place : ℕ) (new : List ℕ) (b :
   change-record poolTable h = change-buffer h
   change-record taskTable h = change-task h
 
-written-in-range : (image : Image) (s : State) → FieldsInRange s → all (map writable image) ≡ true → FieldsInRange (written image s)
-unfolding written all
+written-in-range : (image : Image) (s : State) → FieldsInRange s → allTrue (map writable image) ≡ true → FieldsInRange (written image s)
+unfolding written allTrue
 written-in-range [] s r e = r
 written-in-range (x ∷ xs) s r e = go (writable x) refl e (λ w. written-in-range xs _ (change-record s r (x .number) (x .place) (x .bytes) (w .bytes) (x .table) (w .inside)))
   where
     After : Type 0
     After = FieldsInRange (written xs (changeRecord (x .table) (x .number) (λ l. spliced l (x .place) (x .bytes)) s))
 
-    go : (b : Bool) → writable x ≡ b → (elim b [ true ↦ all (map writable xs) | false ↦ false ]) ≡ true
-        → (Writable x → all (map writable xs) ≡ true → After) → After
+    go : (b : Bool) → writable x ≡ b → (elim b [ true ↦ allTrue (map writable xs) | false ↦ false ]) ≡ true
+        → (Writable x → allTrue (map writable xs) ≡ true → After) → After
     go true p e ih = ih (is-writable x p) e
     go false p e ih = absurd (false≢true e)
 
 nines-good : goodPriorities (replicate 32 9) ≡ true
-unfolding goodPriorities Lists.all Lists.mapWithIndex Lists.mapFromIndex Lists.within
+unfolding goodPriorities Lists.allTrue Lists.mapWithIndex Lists.mapFromIndex Lists.within
 nines-good = refl
 
-image-in-range : (image : Image) → all (map writable image) ≡ true → FieldsInRange (stateOf image)
+image-in-range : (image : Image) → allTrue (map writable image) ≡ true → FieldsInRange (stateOf image)
 unfolding stateOf
 image-in-range image e =
     written-in-range image _ (sound-in-range _ (fresh-sound _ (priorities _ nines-good)) (fresh-fits _ nines-good)) e
 
 abbrev imageWritable : Image → Bool
-imageWritable image = all (map writable image)
+imageWritable image = allTrue (map writable image)
 
 -- ---- Verdicts
 
 -- what holds of each element for which two lists of tests are known
 every-where : {A : Type 0} (P : A → Type 0) (test test′ : A → Bool) (b : Bool) → ((a : A) → test a ≡ true → test′ a ≡ b → P a)
-    → (l : List A) → all (map test l) ≡ true → map test′ l ≡ map (λ a. b) l → Every P l
-unfolding all
+    → (l : List A) → allTrue (map test l) ≡ true → map test′ l ≡ map (λ a. b) l → Every P l
+unfolding allTrue
 every-where P test test′ b h [] e f = tt
 every-where P test test′ b h (a ∷ l) e f = go (test a) refl e (every-where P test test′ b h l)
   where
-    go : (t : Bool) → test a ≡ t → (elim t [ true ↦ all (map test l) | false ↦ false ]) ≡ true
-        → (all (map test l) ≡ true → map test′ l ≡ map (λ a. b) l → Every P l) → P a × Every P l
+    go : (t : Bool) → test a ≡ t → (elim t [ true ↦ allTrue (map test l) | false ↦ false ]) ≡ true
+        → (allTrue (map test l) ≡ true → map test′ l ≡ map (λ a. b) l → Every P l) → P a × Every P l
     go true p e ih = (h a p (ap (λ (bs : List Bool). getD bs 0 b) f), ih e (ap (drop 1) f))
     go false p e ih = absurd (false≢true e)
 
@@ -177,21 +177,21 @@ image-sound i w e =
 
 -- ---- Computed
 
-sound-writable : all (map imageWritable soundImages) ≡ true
-unfolding Lists.all Lists.range writable fieldInRange base allWait soundImages
+sound-writable : allTrue (map imageWritable soundImages) ≡ true
+unfolding Lists.allTrue Lists.numbersFrom writable fieldInRange base allWait soundImages
 sound-writable = refl
 
-unsound-writable : all (map imageWritable unsoundImages) ≡ true
-unfolding Lists.all Lists.range writable fieldInRange base badQueues badLimits badBuffers badRanks badTasks unsoundImages
+unsound-writable : allTrue (map imageWritable unsoundImages) ≡ true
+unfolding Lists.allTrue Lists.numbersFrom writable fieldInRange base badQueues badLimits badBuffers badRanks badTasks unsoundImages
 unsound-writable = refl
 
 -- an image case: its image is sound or not, its calls in range and its fields in their records
 unfoldable imageCaseInRange : ImageCase → Bool
 imageCaseInRange k =
-    all (imageWritable (k .image) ∷ all (map argumentsInRange (map (λ e. e .call) (k .events))) ∷ all (map fieldInRange (k .fields)) ∷ [])
+    allTrue (imageWritable (k .image) ∷ allTrue (map argumentsInRange (map (λ e. e .call) (k .events))) ∷ allTrue (map fieldInRange (k .fields)) ∷ [])
 
-image-cases-in-range : all (map imageCaseInRange imageCases) ≡ true
-unfolding Lists.all Lists.range writable fieldInRange imageCaseInRange base allWait imageCases Call.argumentsInRange Call.directiveInRange Call.operationInRange
+image-cases-in-range : allTrue (map imageCaseInRange imageCases) ≡ true
+unfolding Lists.allTrue Lists.numbersFrom writable fieldInRange imageCaseInRange base allWait imageCases Call.argumentsInRange Call.directiveInRange Call.operationInRange
 image-cases-in-range = refl
 
 -- ---- Calls on an unsound image
@@ -223,7 +223,7 @@ module _ (s : State) (z : Sized s) (f : Encodable s) (e : sound s ≡ false) whe
       ∙ ap (λ (es : List Event). record { call = c; answer = refuse s CORRUPT .answer } ∷ es) (unsound-events cs)
       ∙ sym (ap (λ (o : Outcome State). record { call = c; answer = o .answer } ∷ eventsOnRecords (o .after) cs) (unsound-call s e c))
 
-  unsound-seen : (events : List Event) (fields : List Field) → all (map fieldInRange fields) ≡ true → seenFrom (encode s) events fields ≡ observedFrom s events fields
+  unsound-seen : (events : List Event) (fields : List Field) → allTrue (map fieldInRange fields) ≡ true → seenFrom (encode s) events fields ≡ observedFrom s events fields
   unfolding observedFrom
   unsound-seen events fields within =
       let calls = map (λ (e : Event). e .call) events in

@@ -8,7 +8,7 @@ use mathlib.Core.List.{List, [], _∷_}
 use lib.Dec.{eqb, leb, ltb}
 use lib.ListN.{length, getD}
 use borrow.Author.Tests.{eq-eqb, ne-eqb}
-use Rattle.ranks.specs.Lists.{if_then_else_, mapWithIndex, all, sum}
+use Rattle.ranks.specs.Lists.{if_then_else_, mapWithIndex, allTrue, sumOf}
 use Rattle.records.specs.Split.{shareOfSlot, shareOfTask}
 use Rattle.ranks.specs.Position.{Position}
 use Rattle.records.specs.Records.{Queue, Buffer, Task, State, queueAt, bufferAt, taskAt, freeQueue, isLive, isOpen, hasPriority}
@@ -91,7 +91,7 @@ Kept s s′ = (i : ℕ) → i < 16 → Same (queueAt s i) (queueAt s′ i)
 pub limits-kept : (s s′ : State) → Sized s → Sized s′ → Kept s s′ → (p : ℕ) → limits s′ p ≡ limits s p
 unfolding limits
 limits-kept s s′ z z′ k p =
-    ap sum
+    ap sumOf
     (mapped-cong _ _ (s′ .queues) (s .queues) (freeQueue 0) (freeQueue 0) 0 (z′ .queues ∙ sym (z .queues))
     (λ i h.
     let e = k i (omega (arith, z′ .queues)) in
@@ -119,7 +119,7 @@ buffer-kept s s′ b m k e = ⊎-elim (λ u. unused-sound s′ b m u) (λ u. use
 
 -- a task that waits as another does, in a queue that is kept
 pub waiting-like : (s s′ : State) (t : ℕ) (w w′ : Task) (u : Waiting s t w) → Same (queueAt s (u .slot)) (queueAt s′ (u .slot))
-    → all (taskRules w′) ≡ true → w′ .state ≡ w .state → w′ .position .queue ≡ w .position .queue → w′ .status ≡ w .status
+    → allTrue (taskRules w′) ≡ true → w′ .state ≡ w .state → w′ .position .queue ≡ w .position .queue → w′ .status ≡ w .status
     → w′ .messageLength ≡ w .messageLength → Waiting s′ t w′
 waiting-like s s′ t w w′ u e rules state queue status size =
     record {

@@ -9,7 +9,7 @@ use mathlib.Core.List.{List, [], _∷_, map}
 use lib.Dec.{eqb}
 use lib.ListN.{length, getD, length-map}
 use borrow.Author.Tests.{eqb-true, eqb-false, eq-eqb}
-use Rattle.ranks.specs.Lists.{if_then_else_, mapWithIndex, findIndex, mask, range}
+use Rattle.ranks.specs.Lists.{if_then_else_, mapWithIndex, findIndex, mask, numbersFrom}
 use Rattle.ranks.specs.Position.{Position, inQueue}
 use Rattle.ranks.specs.Steps.{byRank}
 use Rattle.records.specs.Changes.{atIndex, withWaiters, moveTask}
@@ -73,11 +73,11 @@ both-lists p e = λ k. record { messages = p k; waiters = e k }
 
 -- nothing is in a queue of count 0
 pub no-messages : (s : State) (i : ℕ) → queueAt s i .pending ≡ 0 → contents s i .messages ≡ []
-unfolding contents byRank range
+unfolding contents byRank numbersFrom
 no-messages s i e = rw e
 
 pub no-waiters : (s : State) (i : ℕ) → queueAt s i .waiters ≡ 0 → contents s i .waiters ≡ []
-unfolding contents byRank range
+unfolding contents byRank numbersFrom
 no-waiters s i e = rw e
 
 -- ---- Entries of a list
@@ -134,7 +134,7 @@ pub mask-of : {A : Type 0} (f : ℕ → A → Bool) (xs : List A) (a : A) (l : L
 mask-of f xs a l long same = ap mask (by-number f (λ t. member t l) xs a false 32 long same)
 
 pub mask-none : 0 ≡ maskOf []
-unfolding mask range member
+unfolding mask numbersFrom member
 mask-none = refl
 
 -- ---- Records

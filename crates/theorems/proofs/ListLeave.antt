@@ -7,7 +7,7 @@ use mathlib.Core.Logic.{⊎-elim}
 use mathlib.Core.List.{List, _∷_}
 use lib.Dec.{eqb}
 use borrow.Author.Tests.{ne-eqb}
-use Rattle.ranks.specs.Lists.{if_then_else_, filter}
+use Rattle.ranks.specs.Lists.{if_then_else_, keepIf}
 use Rattle.ranks.specs.Position.{noQueue}
 use Rattle.ranks.specs.Steps.{takenOut, byRank}
 use Rattle.records.specs.Records.{Queue, Task, State, queueAt, taskAt, freshTask}
@@ -31,7 +31,7 @@ pub record Leaves (s : State) (t slot rank : ℕ) (f : Task → Task) (s′ : St
   pub tasks : (k : ℕ) → k < 32 → SameButPosition (if eqb k t then f (taskAt s k) else taskAt s k) (taskAt s′ k)
   pub messages : (i : ℕ) → i < 16 → contents s′ i .messages ≡ contents s i .messages
   pub others : (i : ℕ) → i < 16 → (i ≡ slot → ⊥) → contents s′ i .waiters ≡ contents s i .waiters
-  pub waiters : (i : ℕ) → i < 16 → contents s′ i .waiters ≡ filter (λ k. not (eqb k t)) (contents s i .waiters)
+  pub waiters : (i : ℕ) → i < 16 → contents s′ i .waiters ≡ keepIf (λ k. not (eqb k t)) (contents s i .waiters)
   pub first : rank ≡ 0 → contents s slot .waiters ≡ t ∷ contents s′ slot .waiters
 
 module _ {s : State} (g : SoundFacts s) (t slot rank : ℕ) (f : Task → Task) (slot< : slot < 16)
@@ -58,11 +58,11 @@ module _ {s : State} (g : SoundFacts s) (t slot rank : ℕ) (f : Task → Task) 
       (taken-agree (tasks-ranked s g i i<) (s′ .tasks) t slot rank ne (stands .1) changed)
 
   -- it is left out of every list
-  left-out : (i : ℕ) → i < 16 → contents s′ i .waiters ≡ filter (λ k. not (eqb k t)) (contents s i .waiters)
+  left-out : (i : ℕ) → i < 16 → contents s′ i .waiters ≡ keepIf (λ k. not (eqb k t)) (contents s i .waiters)
   unfolding contents
   left-out i i< =
       ⊎-elim
-      (λ e. subst (λ (k : ℕ). contents s′ k .waiters ≡ filter (λ k. not (eqb k t)) (contents s k .waiters)) (sym e)
+      (λ e. subst (λ (k : ℕ). contents s′ k .waiters ≡ keepIf (λ k. not (eqb k t)) (contents s k .waiters)) (sym e)
       (ap (waiters s′) count ∙ taken-out-list (tasks-ranked s g slot slot<) (s′ .tasks) (z′ .tasks) t rank stands changed))
       (λ ne.
       other i i< ne

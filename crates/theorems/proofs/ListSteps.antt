@@ -8,7 +8,7 @@ use mathlib.Core.List.{List, [], _∷_, _++_, map}
 use lib.Dec.{eqb}
 use lib.ListN.{length, getD, take, drop, length-map}
 use borrow.Author.Tests.{eq-eqb, ne-eqb}
-use Rattle.ranks.specs.Lists.{if_then_else_, mapWithIndex, range}
+use Rattle.ranks.specs.Lists.{if_then_else_, mapWithIndex, numbersFrom}
 use Rattle.ranks.specs.Position.{Position, noQueue, inQueue}
 use Rattle.ranks.specs.Steps.{inserted, takenOut, byRank}
 use Rattle.ranks.proofs.Lists.{at-mapped, is-mapped, length-range, at-range}
@@ -34,13 +34,13 @@ module _ {A B : Type 0} where
 
 -- a table's records by their numbers
 pub by-number : {A B : Type 0} (f : ℕ → A → B) (h : ℕ → B) (xs : List A) (a : A) (b : B) (n : ℕ) → length xs ≡ n
-    → ((k : ℕ) → k < n → f k (getD xs k a) ≡ h k) → mapWithIndex f xs ≡ map h (range 0 n)
+    → ((k : ℕ) → k < n → f k (getD xs k a) ≡ h k) → mapWithIndex f xs ≡ map h (numbersFrom 0 n)
 by-number f h xs a b n long same =
     sym
-    (is-mapped f xs (map h (range 0 n)) a b (length-map (range 0 n) h ∙ length-range 0 n ∙ sym long)
+    (is-mapped f xs (map h (numbersFrom 0 n)) a b (length-map (numbersFrom 0 n) h ∙ length-range 0 n ∙ sym long)
     (λ k lt.
     let lt′ : k < n = omega arith in
-    at-map h (range 0 n) k 0 b (omega (arith, length-range 0 n)) ∙ ap h (at-range 0 n k 0 lt′ ∙ zero-add k) ∙ sym (same k lt′)))
+    at-map h (numbersFrom 0 n) k 0 b (omega (arith, length-range 0 n)) ∙ ap h (at-range 0 n k 0 lt′ ∙ zero-add k) ∙ sym (same k lt′)))
 
 -- what is said of the records in the queue is said of the entries of its list
 pub map-by-rank : {A B : Type 0} {position : A → Position} {a : A} {N slot n : ℕ} {xs : List A} → RankedTable position a N slot n xs → (f g : ℕ → B)

@@ -9,7 +9,7 @@ use mathlib.Core.List.{List, [], _∷_, map}
 use lib.Dec.{eqb}
 use lib.ListN.{length}
 use borrow.Author.Tests.{eqb-true, ne-eqb}
-use Rattle.ranks.specs.Lists.{if_then_else_, mapWithIndex, count, filter, range}
+use Rattle.ranks.specs.Lists.{if_then_else_, mapWithIndex, countTrue, keepIf, numbersFrom}
 use Rattle.records.specs.Records.{Queue, Task, State, queueAt, taskAt, freshTask}
 use Rattle.records.specs.Changes.{atIndex, withWaiters, moveTask, withTicks, readyWith}
 use Rattle.records.specs.Status.{TIMEOUT}
@@ -48,7 +48,7 @@ tick-moves w w′ m = subst (λ (v : Task). SameButPosition (taskAfterTick w) (t
 record Ticked (s : State) (had : ℕ → Bool) (s′ : State) : Type 0 where
   pool : s′ .pool ≡ s .pool
   queues : (i : ℕ) → i < 16 → queueAt s′ i ≡ withWaiters (queueAt s′ i .waiters) (queueAt s i)
-  waiters : (i : ℕ) → i < 16 → contents s′ i .waiters ≡ filter (λ k. not (had k && expires (taskAt s k))) (contents s i .waiters)
+  waiters : (i : ℕ) → i < 16 → contents s′ i .waiters ≡ keepIf (λ k. not (had k && expires (taskAt s k))) (contents s i .waiters)
   tasks : (k : ℕ) → k < 32 → SameButPosition (if had k then taskAfterTick (taskAt s k) else taskAt s k) (taskAt s′ k)
 
 -- what a task's record is, by what the test says of it
@@ -58,7 +58,7 @@ task-of {s} {s′} a k h p e = subst (λ (p : Bool). SameButPosition (if p then 
 
 -- two tests that say the same of every task keep the same waiters
 filter-same : {s : State} → SoundFacts s → (i : ℕ) → i < 16 → (f h : ℕ → Bool) → ((k : ℕ) → k < 32 → f k ≡ h k)
-    → filter f (contents s i .waiters) ≡ filter h (contents s i .waiters)
+    → keepIf f (contents s i .waiters) ≡ keepIf h (contents s i .waiters)
 unfolding contents
 filter-same {s} g i i< f h same =
     let table = tasks-ranked s g i i< in
@@ -73,7 +73,7 @@ in-turn {s} {s₁} {s₂} {had} {more} g once a b =
       queues = λ i i<. b .queues i i< ∙ ap (withWaiters (queueAt s₂ i .waiters)) (a .queues i i<);
       waiters =
           λ i i<.
-          b .waiters i i< ∙ ap (filter (λ k. not (more k && expires (taskAt s₁ k)))) (a .waiters i i<)
+          b .waiters i i< ∙ ap (keepIf (λ k. not (more k && expires (taskAt s₁ k)))) (a .waiters i i<)
           ∙ filter-filter _ _ (contents s i .waiters)
           ∙ filter-same g i i< _ _ (λ k h. left k h (had k) (more k) refl refl);
       tasks = λ k h. both k h (had k) (more k) refl refl;
@@ -109,7 +109,7 @@ module _ {s : State} (g : SoundFacts s) (t : ℕ) (t< : t < 32) where
 
   had-tick : (s′ : State) (f : Task → Task) (b : Bool) → expires (taskAt s t) ≡ b → f (taskAt s t) ≡ taskAfterTick (taskAt s t)
       → s′ .pool ≡ s .pool → ((i : ℕ) → i < 16 → queueAt s′ i ≡ withWaiters (queueAt s′ i .waiters) (queueAt s i))
-      → ((i : ℕ) → i < 16 → contents s′ i .waiters ≡ filter (λ k. not (eqb k t && b)) (contents s i .waiters))
+      → ((i : ℕ) → i < 16 → contents s′ i .waiters ≡ keepIf (λ k. not (eqb k t && b)) (contents s i .waiters))
       → ((k : ℕ) → k < 32 → SameButPosition (atIndex t f k (taskAt s k)) (taskAt s′ k)) → Ticked s (λ k. eqb k t) s′
   had-tick s′ f b e mine pool queues waiters tasks =
       record {
@@ -174,45 +174,45 @@ module _ {s : State} (g : SoundFacts s) (t : ℕ) (t< : t < 32) where
 -- ---- All tasks in turn
 
 -- which tasks are in a range
-before-range : (k i n : ℕ) → k < i → member k (range i n) ≡ false
-unfolding member range
+before-range : (k i n : ℕ) → k < i → member k (numbersFrom i n) ≡ false
+unfolding member numbersFrom
 before-range k i zero h = refl
 before-range k i (suc n) h = rw (ne-eqb k i (λ z. omega arith)) (before-range k (suc i) n (omega arith))
 
-in-range : (k : ℕ) → k < 32 → member k (range 0 32) ≡ true
-in-range k h = in-some (range 0 32) k 0 k (omega (arith, length-range 0 32)) (at-range 0 32 k 0 h ∙ zero-add k)
+in-range : (k : ℕ) → k < 32 → member k (numbersFrom 0 32) ≡ true
+in-range k h = in-some (numbersFrom 0 32) k 0 k (omega (arith, length-range 0 32)) (at-range 0 32 k 0 h ∙ zero-add k)
 
-tick-range : (s : State) → SoundFacts s → (i n : ℕ) → i + n ≤ 32 → Ticked s (λ k. member k (range i n)) (tickTasks s (range i n))
-unfolding tickTasks range member
+tick-range : (s : State) → SoundFacts s → (i n : ℕ) → i + n ≤ 32 → Ticked s (λ k. member k (numbersFrom i n)) (tickTasks s (numbersFrom i n))
+unfolding tickTasks numbersFrom member
 tick-range s g i zero h =
     record { pool = refl; queues = λ i i<. refl; waiters = λ i i<. sym (filter-all _ _ 0 (λ k h. refl)); tasks = λ k h. refl }
 tick-range s g i (suc n) h =
     let g′ : SoundFacts (tickTask s i) = tickTask-sound s g i (omega arith) in
-    in-turn g (λ k lt e. subst (λ (j : ℕ). member j (range (suc i) n) ≡ false) (sym (eqb-true k i e)) (before-range i (suc i) n (omega arith)))
+    in-turn g (λ k lt e. subst (λ (j : ℕ). member j (numbersFrom (suc i) n) ≡ false) (sym (eqb-true k i e)) (before-range i (suc i) n (omega arith)))
     (tick-one g i (omega arith) (g′ .sized)) (tick-range (tickTask s i) g′ (suc i) n (omega arith))
 
 -- ---- The tasks that expire
 
 module _ (f : ℕ → Bool) where
-  count-filter : (l : List ℕ) → count (map f l) ≡ length (filter f l)
-  unfolding count filter
+  count-filter : (l : List ℕ) → countTrue (map f l) ≡ length (keepIf f l)
+  unfolding countTrue keepIf
   count-filter [] = refl
   count-filter (x ∷ l) = go (f x) (count-filter l)
     where
-      go : (b : Bool) → count (map f l) ≡ length (filter f l)
-          → (if b then suc (count (map f l)) else count (map f l)) ≡ length (if b then x ∷ filter f l else filter f l)
+      go : (b : Bool) → countTrue (map f l) ≡ length (keepIf f l)
+          → (if b then suc (countTrue (map f l)) else countTrue (map f l)) ≡ length (if b then x ∷ keepIf f l else keepIf f l)
       go true ih = ap suc ih
       go false ih = ih
 
-  in-filter : (l : List ℕ) (k : ℕ) → member k (filter f l) ≡ member k l && f k
-  unfolding filter member
+  in-filter : (l : List ℕ) (k : ℕ) → member k (keepIf f l) ≡ member k l && f k
+  unfolding keepIf member
   in-filter [] k = refl
   in-filter (x ∷ l) k = go (f x) (eqb k x) refl refl (in-filter l k)
     where
-      go : (b c : Bool) → f x ≡ b → eqb k x ≡ c → member k (filter f l) ≡ member k l && f k
-          → member k (if b then x ∷ filter f l else filter f l) ≡ (c || member k l) && f k
-      go true true e q ih = ap (λ (b : Bool). b || member k (filter f l)) q ∙ sym (ap f (eqb-true k x q) ∙ e)
-      go true false e q ih = ap (λ (b : Bool). b || member k (filter f l)) q ∙ ih
+      go : (b c : Bool) → f x ≡ b → eqb k x ≡ c → member k (keepIf f l) ≡ member k l && f k
+          → member k (if b then x ∷ keepIf f l else keepIf f l) ≡ (c || member k l) && f k
+      go true true e q ih = ap (λ (b : Bool). b || member k (keepIf f l)) q ∙ sym (ap f (eqb-true k x q) ∙ e)
+      go true false e q ih = ap (λ (b : Bool). b || member k (keepIf f l)) q ∙ ih
       go false true e q ih =
           let fails : f k ≡ false = ap f (eqb-true k x q) ∙ e in
           ih ∙ ap (λ (b : Bool). member k l && b) fails ∙ and-false (member k l) ∙ sym fails
@@ -229,14 +229,14 @@ tick-lists s g =
           both-lists (same-pool s _ i (all .pool) (ap (λ (q : Queue). q .pending) (all .queues i i<)))
           (all .waiters i i< ∙ filter-same g i i< _ _ (λ k h. ap (λ (b : Bool). not (b && expires (taskAt s k))) (in-range k h)));
       status = refl;
-      value = ap count (by-number _ (λ k. expires (taskAt s k)) (s .tasks) (freshTask 1) false 32 (g .sized .tasks) (λ k h. refl)) ∙ count-filter _ (range 0 32);
+      value = ap countTrue (by-number _ (λ k. expires (taskAt s k)) (s .tasks) (freshTask 1) false 32 (g .sized .tasks) (λ k h. refl)) ∙ count-filter _ (numbersFrom 0 32);
       woken =
           mask-of _ (s .tasks) (freshTask 1) (expired s) (g .sized .tasks)
-          (λ k h. sym (in-filter (λ k. expires (taskAt s k)) (range 0 32) k ∙ ap (λ (b : Bool). b && expires (taskAt s k)) (in-range k h)));
+          (λ k h. sym (in-filter (λ k. expires (taskAt s k)) (numbersFrom 0 32) k ∙ ap (λ (b : Bool). b && expires (taskAt s k)) (in-range k h)));
       tasks = λ k h. rw (in-range k h) at (all .tasks k h);
       queues = all .queues;
       pool = all .pool;
     }
   where
-    all : Ticked s (λ k. member k (range 0 32)) (tickTasks s (range 0 32))
+    all : Ticked s (λ k. member k (numbersFrom 0 32)) (tickTasks s (numbersFrom 0 32))
     all = tick-range s g 0 32 (omega arith)

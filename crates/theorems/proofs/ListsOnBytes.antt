@@ -13,7 +13,7 @@ use Rattle.specification.specs.Answer.{Outcome}
 use Rattle.specification.specs.Call.{Operation, Call, create, ident, onQueue, call, tick, argumentsInRange}
 use Rattle.specification.specs.Step.{commonRefusals, ownRefusals, directiveRefusals, effect, step}
 use Rattle.theorems.specs.SoundTables.{SoundTables, NotRefused}
-use Rattle.theorems.specs.QueueLists.{CreateOnTables, IdentOnTables, TickOnLists, outcomeOf, QueuesAsLists}
+use Rattle.theorems.specs.QueueLists.{CreateOnTables, IdentOnTables, TickOnLists, outcomeOn, QueuesAsLists}
 use Rattle.specification.proofs.OnRecords.{callOnRecords}
 use Rattle.specification.proofs.Refused.{refused-with, refused-or, refuses-none}
 use Rattle.specification.proofs.SoundFacts.{SoundFacts, is-sound}
@@ -37,16 +37,16 @@ module _ (t : Tables) (st : SoundTables t) (c : Call) where
   accepts : NotRefused (step t c .answer) → Accepted (decode t) c × (callOnRecords (decode t) c ≡ effect (decode t) c)
   accepts r = not-refused (decode t) c (subst NotRefused (answer-is t st c) r)
 
-  outcome-is : argumentsInRange c ≡ true → outcomeOf t c ≡ callOnRecords (decode t) c
+  outcome-is : argumentsInRange c ≡ true → outcomeOn t c ≡ callOnRecords (decode t) c
   outcome-is args = λ i. record { answer = answer-is t st c i; after = decoded-after t st c args i }
 
   -- what is shown of the effect holds of the outcome
   on-records : (P : Outcome State → Type 0) → argumentsInRange c ≡ true → callOnRecords (decode t) c ≡ effect (decode t) c → P (effect (decode t) c)
-      → P (outcomeOf t c)
+      → P (outcomeOn t c)
   on-records P args e p = subst P (sym (outcome-is args ∙ e)) p
 
 operated : (t : Tables) (caller id : ℕ) (o : Operation) → SoundTables t → argumentsInRange (call caller (onQueue id o)) ≡ true
-    → NotRefused (step t (call caller (onQueue id o)) .answer) → OperationFacts (decode t) caller (slotOf id) o (outcomeOf t (call caller (onQueue id o)))
+    → NotRefused (step t (call caller (onQueue id o)) .answer) → OperationFacts (decode t) caller (slotOf id) o (outcomeOn t (call caller (onQueue id o)))
 unfolding effect
 operated t caller id o st args r =
     let (a, e) = accepts t st (call caller (onQueue id o)) r in
@@ -56,7 +56,7 @@ operated t caller id o st args r =
 created : (t : Tables) (caller name limit maxSize attributes : ℕ) → SoundTables t
     → argumentsInRange (call caller (create name limit maxSize attributes)) ≡ true
     → NotRefused (step t (call caller (create name limit maxSize attributes)) .answer)
-    → CreateOnTables (decode t) (shareOfTask caller) name limit maxSize attributes (outcomeOf t (call caller (create name limit maxSize attributes)))
+    → CreateOnTables (decode t) (shareOfTask caller) name limit maxSize attributes (outcomeOn t (call caller (create name limit maxSize attributes)))
 unfolding effect Accepted directiveRefusals
 created t caller name limit maxSize attributes st args r =
     let (a, e) = accepts t st (call caller (create name limit maxSize attributes)) r in
@@ -87,7 +87,7 @@ tick-runs : (s : State) → SoundFacts s → callOnRecords s tick ≡ effect s t
 unfolding callOnRecords commonRefusals ownRefusals
 tick-runs s g = refuses-none s _ _ (ap not (is-sound s g), tt)
 
-ticked : (t : Tables) → SoundTables t → TickOnLists (decode t) (outcomeOf t tick)
+ticked : (t : Tables) → SoundTables t → TickOnLists (decode t) (outcomeOn t tick)
 unfolding argumentsInRange effect
 ticked t st =
     on-records t st tick (TickOnLists (decode t)) refl (tick-runs (decode t) (facts t st)) (tick-lists (decode t) (facts t st))

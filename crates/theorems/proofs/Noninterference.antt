@@ -6,7 +6,7 @@ use mathlib.Core.Bool.{true}
 use mathlib.Core.List.{List, map}
 use lib.Dec.{eqb}
 use lib.ListN.{length, getD}
-use Rattle.ranks.specs.Lists.{all, mapWithIndex, within}
+use Rattle.ranks.specs.Lists.{allTrue, mapWithIndex, within}
 use Rattle.ranks.specs.Table.{slice}
 use Rattle.records.specs.Records.{State, fresh, freshTask}
 use Rattle.records.specs.Bytes.{Tables, encodeQueue, encodeBuffer, encodeTask, encode}
@@ -30,7 +30,7 @@ pub fresh-fits : (ps : List ℕ) → goodPriorities ps ≡ true → Encodable (f
 unfolding goodPriorities
 fresh-fits ps e =
     let p = priorities ps e in
-    let high : (t : ℕ) → t < 32 → getD ps t 0 ≤ 255 = λ t h. bounds 1 255 (getD ps t 0) (every-at (λ t p. within 1 255 p) ps 0 (both (eqb (length ps) 32) (all (mapWithIndex (λ t p. within 1 255 p) ps)) e .1) t (omega (arith, p .count))) .1 in
+    let high : (t : ℕ) → t < 32 → getD ps t 0 ≤ 255 = λ t h. bounds 1 255 (getD ps t 0) (every-at (λ t p. within 1 255 p) ps 0 (both (eqb (length ps) 32) (allTrue (mapWithIndex (λ t p. within 1 255 p) ps)) e .1) t (omega (arith, p .count))) .1 in
     record {
       queues = λ i h. rw (fresh-queue ps p i h) (record { generation = omega arith; name = omega arith; reserved = refl });
       pool = λ b h. rw (fresh-buffer ps p b h) (record { reserved = refl; bytes = record { long = refl; each = bytes-zeros 120 } });
@@ -63,8 +63,8 @@ demand-3 x ps ps′ calls calls′ good good′ same-priority args args′ same-
           ap (observations x) (on .events) ∙ one .observed
           ∙ ap (λ (l : List Call). observations x (eventsOnRecords (fresh ps′) l)) same-purge
           ∙ sym (two .observed) ∙ sym (ap (observations x) (on′ .events));
-      wakes-none = ap (λ (es : List Event). all (map (wakesNoTaskOf x) es)) (on .events) ∙ one .wakes-none;
-      wakes-none′ = ap (λ (es : List Event). all (map (wakesNoTaskOf x) es)) (on′ .events) ∙ two .wakes-none;
+      wakes-none = ap (λ (es : List Event). allTrue (map (wakesNoTaskOf x) es)) (on .events) ∙ one .wakes-none;
+      wakes-none′ = ap (λ (es : List Event). allTrue (map (wakesNoTaskOf x) es)) (on′ .events) ∙ two .wakes-none;
       records-equal =
           rw (on .tables, on′ .tables)
           (same-records x _ _ (on .sound) (on′ .sound) (on .fits) (on′ .fits)
@@ -92,4 +92,4 @@ demand-3 x ps ps′ calls calls′ good good′ same-priority args args′ same-
     two : RunFacts x (fresh ps′) (fresh ps′) calls′
     two =
         runs x calls′ (fresh ps′) (fresh ps′) (fresh-confined ps′ p′ x) (fresh-confined ps′ p′ x) (equivalent-refl x (fresh ps′))
-        (subst (λ (l : List Call). all (map (isConfined x) l) ≡ true) same-purge confined)
+        (subst (λ (l : List Call). allTrue (map (isConfined x) l) ≡ true) same-purge confined)

@@ -7,7 +7,7 @@ use mathlib.Core.Logic.{_⊎_, inl, inr, ⊎-elim}
 use mathlib.Core.List.{List, [], _∷_, _++_, map, flatten}
 use lib.ListN.{length, getD}
 use borrow.Author.Tests.{eq-eqb}
-use Rattle.ranks.specs.Lists.{if_then_else_, all}
+use Rattle.ranks.specs.Lists.{if_then_else_, allTrue}
 use Rattle.ranks.specs.Table.{slice, records}
 use Rattle.records.specs.Records.{Queue, Buffer, Task, State, queueAt, bufferAt, taskAt, freeQueue, freeBuffer, freshTask}
 use Rattle.records.specs.Bytes.{Tables, decodeQueue, encodeQueue, decodeBuffer, encodeBuffer, decodeTask, encodeTask, decode, encode, rightLengths}
@@ -105,8 +105,8 @@ module _ (s : State) (z : Sized s) (f : Encodable s) where
 -- ---- A run
 
 -- the first call of a list whose arguments are in range, and the others
-first-and-rest : (b : Bool) (bs : List Bool) → all (b ∷ bs) ≡ true → (b ≡ true) × (all bs ≡ true)
-unfolding all
+first-and-rest : (b : Bool) (bs : List Bool) → allTrue (b ∷ bs) ≡ true → (b ≡ true) × (allTrue bs ≡ true)
+unfolding allTrue
 first-and-rest true bs e = (refl, e)
 first-and-rest false bs e = absurd (false≢true e)
 
@@ -117,7 +117,7 @@ pub record RunOnRecords (s : State) (calls : List Call) : Type 0 where
   pub sound : SoundFacts (stateAfter s calls)
   pub fits : Encodable (stateAfter s calls)
 
-pub run-on-records : (calls : List Call) (s : State) → SoundFacts s → Encodable s → all (map argumentsInRange calls) ≡ true → RunOnRecords s calls
+pub run-on-records : (calls : List Call) (s : State) → SoundFacts s → Encodable s → allTrue (map argumentsInRange calls) ≡ true → RunOnRecords s calls
 unfolding run eventsOnRecords stateAfter
 run-on-records [] s g f k = record { events = refl; tables = refl; sound = g; fits = f }
 run-on-records (c ∷ cs) s g f k =

@@ -8,7 +8,7 @@ use mathlib.Core.List.{List, [], _∷_}
 use lib.Dec.{eqb, leb, ltb}
 use lib.ListN.{length, getD}
 use borrow.Author.Tests.{eqb-true, eqb-false, eq-eqb, ne-eqb, not-false}
-use Rattle.ranks.specs.Lists.{if_then_else_, mapWithIndex, all, allZero, sum}
+use Rattle.ranks.specs.Lists.{if_then_else_, mapWithIndex, allTrue, allZero, sumOf}
 use Rattle.records.specs.Layout.{slotOf}
 use Rattle.records.specs.Split.{shareOfSlot, shareLimit}
 use Rattle.ranks.specs.Position.{Position, noQueue, inQueue}
@@ -109,7 +109,7 @@ module _ (s s′ : State) (g : SoundFacts s) (slot : ℕ) (slot< : slot < 16) (f
 -- ---- The pool after all messages of the queue are removed
 
 pub free-sound′ : (s : State) (b : ℕ) → soundBuffer s b freeBuffer ≡ true
-unfolding freeBufferRules all allZero
+unfolding freeBufferRules allTrue allZero
 free-sound′ s b = unused-sound s b freeBuffer (record { queue = refl; rules = refl })
 
 module _ (s s′ : State) (g : SoundFacts s) (slot : ℕ) (slot< : slot < 16) (e : s′ .pool ≡ withoutMessages s slot) (n0 : queueAt s′ slot .pending ≡ 0)

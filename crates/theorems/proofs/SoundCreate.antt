@@ -9,7 +9,7 @@ use mathlib.Core.List.{List, [], _∷_}
 use lib.Dec.{eqb, leb, ltb}
 use lib.ListN.{length, getD, replicate}
 use borrow.Author.Tests.{eqb-true, eqb-false, eq-eqb, ne-eqb, not-false, ltb-true, ltb-false, leb-false}
-use Rattle.ranks.specs.Lists.{if_then_else_, mapWithIndex, all, allZero, sum, first, within}
+use Rattle.ranks.specs.Lists.{if_then_else_, mapWithIndex, allTrue, allZero, sumOf, firstTrue, within}
 use Rattle.records.specs.Layout.{slotOf}
 use Rattle.records.specs.Split.{shareCount, shareOfSlot, shareOfTask, shareLimit}
 use Rattle.ranks.specs.Position.{Position, noQueue}
@@ -142,7 +142,7 @@ slot-found s z p h =
     (eqb-true _ _ a, eqb-true _ _ b, ltb-true _ _ c)
   where
     F : ℕ → Queue → Bool
-    F i q = all (eqb (q .live) 0 ∷ eqb (shareOfSlot i) p ∷ ltb (q .generation) 65535 ∷ [])
+    F i q = allTrue (eqb (q .live) 0 ∷ eqb (shareOfSlot i) p ∷ ltb (q .generation) 65535 ∷ [])
 
 module _ (s : State) (g : SoundFacts s) (slot name limit maxSize attributes : ℕ) (slot< : slot < 16) (free : queueAt s slot .live ≡ 0)
     (name≥ : 1 ≤ name) (attributes≤ : attributes ≤ 3) (limit≥ : 1 ≤ limit) (limit≤ : limit ≤ 16) (size≥ : 1 ≤ maxSize) (size≤ : maxSize ≤ 120)

@@ -8,7 +8,7 @@ use mathlib.Core.List.{List, [], _∷_}
 use lib.Dec.{eqb, leb, ltb}
 use lib.ListN.{length, getD, take, length-take}
 use borrow.Author.Tests.{eqb-true, eqb-false, eq-eqb, ne-eqb, not-false, ltb-true, ltb-false, leb-true, lt-ltb, le-ltb}
-use Rattle.ranks.specs.Lists.{if_then_else_, mapWithIndex, all, allZero, first, minimum}
+use Rattle.ranks.specs.Lists.{if_then_else_, mapWithIndex, allTrue, allZero, firstTrue, minimum}
 use Rattle.records.specs.Layout.{slotOf}
 use Rattle.ranks.specs.Position.{Position, noQueue, positionAt, inQueue, standsAt}
 use Rattle.records.specs.Records.{Queue, Buffer, Task, State, queueAt, bufferAt, taskAt, freeQueue, freeBuffer, freshTask, hasPriority, isWaiting}

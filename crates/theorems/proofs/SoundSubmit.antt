@@ -8,7 +8,7 @@ use mathlib.Core.List.{List, []}
 use lib.Dec.{eqb, leb, ltb}
 use lib.ListN.{length}
 use borrow.Author.Tests.{eqb-true, ltb-true, ltb-false, leb-false, not-false}
-use Rattle.ranks.specs.Lists.{if_then_else_, mapWithIndex, all}
+use Rattle.ranks.specs.Lists.{if_then_else_, mapWithIndex, allTrue}
 use Rattle.records.specs.Split.{shareOfSlot, shareOfBuffer}
 use Rattle.records.specs.Layout.{slotOf}
 use Rattle.records.specs.Records.{Queue, Buffer, Task, State, sizeAllowed, queueAt, bufferAt, taskAt, freeBuffer, freshTask}
@@ -38,7 +38,7 @@ pub slot-below : (id : ℕ) → slotOf id < 16
 slot-below id = omega arith
 
 -- every task's rules on its own bytes
-pub own-rules : (s : State) → SoundFacts s → (t : ℕ) → t < 32 → all (taskRules (taskAt s t)) ≡ true
+pub own-rules : (s : State) → SoundFacts s → (t : ℕ) → t < 32 → allTrue (taskRules (taskAt s t)) ≡ true
 own-rules s g t h = ⊎-elim (λ r. r .rules) (λ w. w .rules) (task-rules s t _ (g .task t h))
 
 -- the first waiter stands at rank 0

@@ -9,7 +9,7 @@ use mathlib.Core.List.{List, [], _∷_}
 use lib.Dec.{eqb, leb, ltb}
 use lib.ListN.{length, getD}
 use borrow.Author.Tests.{eqb-true, eqb-false, eq-eqb, ne-eqb}
-use Rattle.ranks.specs.Lists.{if_then_else_, mapWithIndex, range, all}
+use Rattle.ranks.specs.Lists.{if_then_else_, mapWithIndex, numbersFrom, allTrue}
 use Rattle.ranks.specs.Position.{Position, noQueue}
 use Rattle.records.specs.Records.{Queue, Buffer, Task, State, queueAt, bufferAt, taskAt, freeBuffer, freshTask, isWaiting}
 use Rattle.specification.specs.Sound.{taskRules, soundTask, slotIn}
@@ -141,8 +141,8 @@ abbrev pub Below : ℕ → List ℕ → Type 0
 Below n [] = Unit {0}
 Below n (t ∷ ts) = (t < n) × Below n ts
 
-pub below-range : (N i n : ℕ) → i + n ≤ N → Below N (range i n)
-unfolding range
+pub below-range : (N i n : ℕ) → i + n ≤ N → Below N (numbersFrom i n)
+unfolding numbersFrom
 below-range N i zero h = tt
 below-range N i (suc n) h = (omega arith, below-range N (suc i) n (omega arith))
 
@@ -153,4 +153,4 @@ tickTasks-sound s (t ∷ ts) g b = tickTasks-sound (tickTask s t) ts (tickTask-s
 
 pub tick-sound : (s : State) → SoundFacts s → SoundFacts (effect s .after)
 unfolding effect
-tick-sound s g = tickTasks-sound s (range 0 32) g (below-range 32 0 32 (omega arith))
+tick-sound s g = tickTasks-sound s (numbersFrom 0 32) g (below-range 32 0 32 (omega arith))

@@ -7,7 +7,7 @@ use mathlib.Core.List.{List, [], _∷_}
 use lib.Dec.{eqb, ltb}
 use lib.ListN.{length}
 use borrow.Author.Tests.{eqb-true, ne-eqb, ltb-true, leb-false}
-use Rattle.ranks.specs.Lists.{if_then_else_, mapWithIndex, first, all, mask, count, sum, minimum}
+use Rattle.ranks.specs.Lists.{if_then_else_, mapWithIndex, firstTrue, allTrue, mask, countTrue, sumOf, minimum}
 use Rattle.ranks.specs.Position.{standsAt, inQueue}
 use Rattle.records.specs.Layout.{slotOf, idOf}
 use Rattle.records.specs.Split.{shareOfSlot, shareOfBuffer, shareOfTask}
@@ -39,8 +39,8 @@ use Rattle.specification.specs.GetNumberPending
 use Rattle.specification.specs.Flush
 
 -- a list of tests of which the second fails
-second-fails : (a b : Bool) (bs : List Bool) → b ≡ false → all (a ∷ b ∷ bs) ≡ false
-unfolding all
+second-fails : (a b : Bool) (bs : List Bool) → b ≡ false → allTrue (a ∷ b ∷ bs) ≡ false
+unfolding allTrue
 second-fails true true bs e = absurd (true≢false e)
 second-fails true false bs e = refl
 second-fails false b bs e = refl
@@ -58,7 +58,7 @@ named-found s z caller name share h =
     eqb-true _ _ (holds _ (sym (at-mapped F (s .queues) _ (freeQueue 0) false lt) ∙ e) .1 .0)
   where
     F : ℕ → Queue → Bool
-    F i q = all (isLive q ∷ eqb (shareOfSlot i) share ∷ eqb (q .name) name ∷ (eqb share (shareOfTask caller) || isOpen q) ∷ [])
+    F i q = allTrue (isLive q ∷ eqb (shareOfSlot i) share ∷ eqb (q .name) name ∷ (eqb share (shareOfTask caller) || isOpen q) ∷ [])
 
 module _ {x : ℕ} {s s′ : State} (p : Confined x s) (p′ : Confined x s′) (e : Equivalent x s s′) where
   z : Sized s
@@ -88,20 +88,20 @@ module _ {x : ℕ} {s s′ : State} (p : Confined x s) (p′ : Confined x s′) 
 
   same-freeSlot : Create.freeSlot s x ≡ Create.freeSlot s′ x
   unfolding Create.freeSlot
-  same-freeSlot = ap first (queues-alike false _ (λ i q n. second-fails _ _ _ (ne-eqb _ _ n)))
+  same-freeSlot = ap firstTrue (queues-alike false _ (λ i q n. second-fails _ _ _ (ne-eqb _ _ n)))
 
   same-limits : limits s x ≡ limits s′ x
   unfolding limits
-  same-limits = ap sum (queues-alike 0 _ (λ i q n. rw (ne-eqb _ _ n)))
+  same-limits = ap sumOf (queues-alike 0 _ (λ i q n. rw (ne-eqb _ _ n)))
 
   same-named : (caller name : ℕ) → Ident.named s caller name x ≡ Ident.named s′ caller name x
   unfolding Ident.named
-  same-named caller name = ap first (queues-alike false _ (λ i q n. second-fails _ _ _ (ne-eqb _ _ n)))
+  same-named caller name = ap firstTrue (queues-alike false _ (λ i q n. second-fails _ _ _ (ne-eqb _ _ n)))
 
   same-freeBuffer : freeBufferOf s x ≡ freeBufferOf s′ x
   unfolding freeBufferOf
   same-freeBuffer =
-      ap first
+      ap firstTrue
       (like-outside shareOfBuffer x 64 freeBuffer false (isFreeOf x) (s .pool) (s′ .pool) (z .pool) (z′ .pool) (e .pool)
       (λ b m n. and-false (eqb (m .position .queue) 0) (ne-eqb _ _ n)))
 
@@ -140,7 +140,7 @@ module _ {x : ℕ} {s s′ : State} (p : Confined x s) (p′ : Confined x s′) 
 
     same-firstWaiter : firstWaiter s slot ≡ firstWaiter s′ slot
     unfolding firstWaiter
-    same-firstWaiter = ap first (waiters-alike false (λ t w. standsAt slot 0 (w .position)) (λ t w n. rw (ne-eqb _ _ n)))
+    same-firstWaiter = ap firstTrue (waiters-alike false (λ t w. standsAt slot 0 (w .position)) (λ t w n. rw (ne-eqb _ _ n)))
 
     same-waiters : waitersOf s slot ≡ waitersOf s′ slot
     unfolding waitersOf
@@ -148,7 +148,7 @@ module _ {x : ℕ} {s s′ : State} (p : Confined x s) (p′ : Confined x s′) 
 
     same-firstMessage : firstMessage s slot ≡ firstMessage s′ slot
     unfolding firstMessage
-    same-firstMessage = ap first (messages-alike false (λ b m. standsAt slot 0 (m .position)) (λ b m n. rw (ne-eqb _ _ n)))
+    same-firstMessage = ap firstTrue (messages-alike false (λ b m. standsAt slot 0 (m .position)) (λ b m n. rw (ne-eqb _ _ n)))
 
     same-waitRank : (caller : ℕ) → caller < 32 → shareOfTask caller ≡ x → waitRank s caller slot ≡ waitRank s′ caller slot
     unfolding waitRank
@@ -195,7 +195,7 @@ module _ {x : ℕ} {s s′ : State} (p : Confined x s) (p′ : Confined x s′) 
     unfolding Broadcast.effect withoutWaiters
     broadcast-consistent message =
         record {
-          answer = ap (λ (bs : List Bool). outcome 0 (count bs) (mask bs) s .answer) same-waiters;
+          answer = ap (λ (bs : List Bool). outcome 0 (countTrue bs) (mask bs) s .answer) same-waiters;
           after = record { queues = queues-same _; pool = e .pool; tasks = tasks-same _ };
         }
 

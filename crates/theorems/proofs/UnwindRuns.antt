@@ -6,7 +6,7 @@ use mathlib.Core.Bool.{Bool, true, false, _||_}
 use mathlib.Core.List.{List, [], _∷_, map}
 use lib.Dec.{eqb}
 use borrow.Author.Tests.{eq-eqb, ne-eqb}
-use Rattle.ranks.specs.Lists.{if_then_else_, all, bit, allZero, range}
+use Rattle.ranks.specs.Lists.{if_then_else_, allTrue, bit, allZero, numbersFrom}
 use Rattle.records.specs.Split.{shareOfTask}
 use Rattle.records.specs.Records.{State}
 use Rattle.specification.specs.Answer.{Answer}
@@ -25,8 +25,8 @@ use Rattle.theorems.proofs.UnwindTick.{tick-consistent}
 
 -- ---- The bits of the share's tasks
 
-map-range : (f g : ℕ → ℕ) (i n : ℕ) → ((t : ℕ) → t < i + n → f t ≡ g t) → map f (range i n) ≡ map g (range i n)
-unfolding range
+map-range : (f g : ℕ → ℕ) (i n : ℕ) → ((t : ℕ) → t < i + n → f t ≡ g t) → map f (numbersFrom i n) ≡ map g (numbersFrom i n)
+unfolding numbersFrom
 map-range f g i zero h = refl
 map-range f g i (suc n) h = ap₂ (λ (b : ℕ) (l : List ℕ). b ∷ l) (h i (omega arith)) (map-range f g (suc i) n (λ t lt. h t (omega arith)))
 
@@ -38,8 +38,8 @@ same-bits x m m′ h =
     if-at (λ b. b ≡ (if eqb (shareOfTask t) x then bit t m′ else 0)) (shareOfTask t) x (bit t m) 0
     (λ o. rw (eq-eqb (shareOfTask t) x o) (h t (omega arith) o)) (λ n. rw (ne-eqb (shareOfTask t) x n)))
 
-all-zero : allZero (map (λ t. 0) (range 0 32)) ≡ true
-unfolding range allZero
+all-zero : allZero (map (λ t. 0) (numbersFrom 0 32)) ≡ true
+unfolding numbersFrom allZero
 all-zero = refl
 
 no-bits : (x m : ℕ) → ((t : ℕ) → t < 32 → shareOfTask t ≡ x → bit t m ≡ 0) → allZero (ownBits x m) ≡ true
@@ -54,13 +54,13 @@ no-bits x m h =
 -- the run of the calls from s, and of those that are left of them from s′
 pub record RunFacts (x : ℕ) (s s′ : State) (calls : List Call) : Type 0 where
   pub observed : observations x (eventsOnRecords s calls) ≡ observations x (eventsOnRecords s′ (purge x calls))
-  pub wakes-none : all (map (wakesNoTaskOf x) (eventsOnRecords s calls)) ≡ true
+  pub wakes-none : allTrue (map (wakesNoTaskOf x) (eventsOnRecords s calls)) ≡ true
   pub after : Equivalent x (stateAfter s calls) (stateAfter s′ (purge x calls))
 
 module _ {x : ℕ} {s s′ : State} (p : Confined x s) (p′ : Confined x s′) (e : Equivalent x s s′) (c : Call) (cs : List Call) where
   -- a call of x is answered alike
   own-step : isCallOf x c ≡ true → isConfined x c ≡ true → RunFacts x (callOnRecords s c .after) (callOnRecords s′ c .after) cs → RunFacts x s s′ (c ∷ cs)
-  unfolding observations purge wakesNoTaskOf eventsOnRecords stateAfter all
+  unfolding observations purge wakesNoTaskOf eventsOnRecords stateAfter allTrue
   own-step o k ih =
       record {
         observed = rw (o, o) (ap₂ (λ (a : Answer) (l : List Observation). ofCall a ∷ l) (own-consistent p p′ e c o k .answer) (ih .observed));
@@ -70,7 +70,7 @@ module _ {x : ℕ} {s s′ : State} (p : Confined x s) (p′ : Confined x s′) 
 
   -- a call that is neither x's nor a tick is not observed
   other-step : isCallOf x c ≡ false → isTick c ≡ false → RunFacts x (callOnRecords s c .after) s′ cs → RunFacts x s s′ (c ∷ cs)
-  unfolding observations purge wakesNoTaskOf eventsOnRecords stateAfter all
+  unfolding observations purge wakesNoTaskOf eventsOnRecords stateAfter allTrue
   other-step o k ih =
       record {
         observed = rw (o, k) (ih .observed);
@@ -79,8 +79,8 @@ module _ {x : ℕ} {s s′ : State} (p : Confined x s) (p′ : Confined x s′) 
       }
 
 pub runs : (x : ℕ) (calls : List Call) (s s′ : State) → Confined x s → Confined x s′ → Equivalent x s s′
-    → all (map (isConfined x) (purge x calls)) ≡ true → RunFacts x s s′ calls
-unfolding isCallOf isTick observations purge isConfined wakesNoTaskOf eventsOnRecords stateAfter all
+    → allTrue (map (isConfined x) (purge x calls)) ≡ true → RunFacts x s s′ calls
+unfolding isCallOf isTick observations purge isConfined wakesNoTaskOf eventsOnRecords stateAfter allTrue
 runs x [] s s′ p p′ e k = record { observed = refl; wakes-none = refl; after = e }
 runs x (tick ∷ cs) s s′ p p′ e k =
     let t = tick-consistent p p′ e in
@@ -97,8 +97,8 @@ runs x (call caller directive ∷ cs) s s′ p p′ e k = go (isCallOf x c) refl
     c : Call
     c = call caller directive
 
-    go : (b : Bool) → isCallOf x c ≡ b → all (map (isConfined x) (if b || false then c ∷ purge x cs else purge x cs)) ≡ true
-        → ((t t′ : State) → Confined x t → Confined x t′ → Equivalent x t t′ → all (map (isConfined x) (purge x cs)) ≡ true → RunFacts x t t′ cs)
+    go : (b : Bool) → isCallOf x c ≡ b → allTrue (map (isConfined x) (if b || false then c ∷ purge x cs else purge x cs)) ≡ true
+        → ((t t′ : State) → Confined x t → Confined x t′ → Equivalent x t t′ → allTrue (map (isConfined x) (purge x cs)) ≡ true → RunFacts x t t′ cs)
         → RunFacts x s s′ (c ∷ cs)
     go true o k rest =
         let (now, later) = both _ _ (sym (all-cons (isConfined x c) (map (isConfined x) (purge x cs))) ∙ k) in

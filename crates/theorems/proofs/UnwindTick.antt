@@ -6,7 +6,7 @@ use mathlib.Core.Bool.{false}
 use mathlib.Core.Logic.{⊎-elim}
 use mathlib.Core.List.{List, [], _∷_}
 use borrow.Author.Tests.{ne-eqb}
-use Rattle.ranks.specs.Lists.{mapWithIndex, range, bit}
+use Rattle.ranks.specs.Lists.{mapWithIndex, numbersFrom, bit}
 use Rattle.records.specs.Split.{shareOfTask}
 use Rattle.records.specs.Records.{Task, State, taskAt, freshTask}
 use Rattle.records.specs.Changes.{readyWith}
@@ -95,5 +95,5 @@ tick-consistent {x} {s} {s′} p p′ e =
     (record {
       status = refl;
       bits = λ t h o. expires-bit s (p .facts) t h ∙ ap (λ (w : Task). one (expires w)) (e .tasks t h o) ∙ sym (expires-bit s′ (p′ .facts) t h);
-      after = tickTasks-equivalent (range 0 32) (below-range 32 0 32 (omega arith)) p p′ e;
+      after = tickTasks-equivalent (numbersFrom 0 32) (below-range 32 0 32 (omega arith)) p p′ e;
     })

@@ -3,7 +3,7 @@ use Prim.Native.Nat.{_^_}
 use mathlib.Core.Logic.{_↔_}
 use lib.Count.{ones}
 use Rattle.ranks.specs.Prelude.{ℕ, suc, _≤_, _<_, _≡_, _⊎_, Bool, true, false, not, _&&_, _||_, List, [], _∷_, map, eqb}
-use Rattle.ranks.specs.Lists.{if_then_else_, all, count, mapWithIndex}
+use Rattle.ranks.specs.Lists.{if_then_else_, allTrue, countTrue, mapWithIndex}
 use Rattle.ranks.specs.Position.{inQueue}
 use Rattle.records.specs.Layout.{slotCount, bufferCount, taskCount}
 use Rattle.records.specs.Records.{State, queueAt, bufferAt, taskAt}
@@ -21,7 +21,7 @@ use Rattle.theorems.specs.QueueLists.{QueuesAsLists, member}
 
 -- ---- The layout: bytes and records correspond, and fresh tables are sound
 
-pub record Layout : Type 0 where
+pub record LayoutHolds : Type 0 where
   pub decode-encode : (s : State) → FieldsInRange s → decode (encode s) ≡ s
   pub encode-decode : (t : Tables) → ByteTables t → encode (decode t) ≡ t
   pub decoded : (t : Tables) → ByteTables t → FieldsInRange (decode t)
@@ -39,7 +39,7 @@ pub record Demand1 : Type 0 where
   -- status n exactly if its test holds and no earlier one does
   pub exactly : (t : Tables) (c : Call) (n : ℕ) → (n ≡ 0 → ⊥) → (n ≡ 14 → ⊥) → (step t c .answer .status ≡ n) ↔ FirstThatHolds n (refusals t c)
   -- 0 or 14 exactly if no test holds
-  pub accepted : (t : Tables) (c : Call) → NotRefused (step t c .answer) ↔ (all (map (λ (r : Refusal). not (r .holds)) (refusals t c)) ≡ true)
+  pub accepted : (t : Tables) (c : Call) → NotRefused (step t c .answer) ↔ (allTrue (map (λ (r : Refusal). not (r .holds)) (refusals t c)) ≡ true)
   -- "All but 0 and 14 are refusals and change nothing": the very tables, value 0, mask 0
   pub refused : (t : Tables) (c : Call) → (step t c .answer .status ≡ 0 → ⊥) → (step t c .answer .status ≡ 14 → ⊥)
       → step t c ≡ refuse t (step t c .answer .status)
@@ -59,10 +59,10 @@ pub record Demand1 : Type 0 where
 
 -- a queue's records: those buffers, or tasks, that are in it
 abbrev pub messageCount : State → (slot : ℕ) → ℕ
-messageCount s slot = count (mapWithIndex (λ b m. inQueue slot (m .position)) (s .pool))
+messageCount s slot = countTrue (mapWithIndex (λ b m. inQueue slot (m .position)) (s .pool))
 
 abbrev pub waiterCount : State → (slot : ℕ) → ℕ
-waiterCount s slot = count (waitersOf s slot)
+waiterCount s slot = countTrue (waitersOf s slot)
 
 pub record AnswerInRange (a : Answer) : Type 0 where
   pub status : a .status ≤ 16
@@ -103,9 +103,9 @@ pub record Demand2 : Type 0 where
   -- a queue as a list
   pub lists : QueuesAsLists
   -- "no id is issued twice"
-  pub ids-distinct : (priorities : List ℕ) (calls : List Call) → goodPriorities priorities ≡ true → all (map argumentsInRange calls) ≡ true
+  pub ids-distinct : (priorities : List ℕ) (calls : List Call) → goodPriorities priorities ≡ true → allTrue (map argumentsInRange calls) ≡ true
       → distinct (issued (run (freshTables priorities) calls .events)) ≡ true
   -- no run from fresh tables ever answers 10 or 16
-  pub never-corrupt : (priorities : List ℕ) (calls : List Call) → goodPriorities priorities ≡ true → all (map argumentsInRange calls) ≡ true
-      → all (map (λ (e : Event). not (eqb (e .answer .status) CORRUPT || eqb (e .answer .status) BAD-SHAPE)) (run (freshTables priorities) calls .events))
+  pub never-corrupt : (priorities : List ℕ) (calls : List Call) → goodPriorities priorities ≡ true → allTrue (map argumentsInRange calls) ≡ true
+      → allTrue (map (λ (e : Event). not (eqb (e .answer .status) CORRUPT || eqb (e .answer .status) BAD-SHAPE)) (run (freshTables priorities) calls .events))
       ≡ true

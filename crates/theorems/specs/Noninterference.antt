@@ -1,7 +1,7 @@
 -- Document 01, "Runs": demand 3. What a confined share observes of a run depends on its own calls, its tasks' priorities and
 -- the ticks alone.
 use Rattle.ranks.specs.Prelude.{ℕ, _*_, _<_, _≡_, Bool, true, false, _&&_, _||_, not, List, [], _∷_, map, getD, eqb, ltb}
-use Rattle.ranks.specs.Lists.{if_then_else_, within, all, allZero, bit, range}
+use Rattle.ranks.specs.Lists.{if_then_else_, within, allTrue, allZero, bit, numbersFrom}
 use Rattle.ranks.specs.Table.{slice}
 use Rattle.records.specs.Split.{shareOfSlot, shareOfBuffer, shareOfTask}
 use Rattle.records.specs.Layout.{slotCount, queueWidth, bufferCount, bufferWidth, taskCount, taskWidth, slotOf}
@@ -41,7 +41,7 @@ isConfined x tick = true
 
 -- the bits of X's tasks in a mask, 0 in place of the others
 unfoldable pub ownBits : (x mask : ℕ) → List ℕ
-ownBits x mask = map (λ t. if eqb (shareOfTask t) x then bit t mask else 0) (range 0 taskCount)
+ownBits x mask = map (λ t. if eqb (shareOfTask t) x then bit t mask else 0) (numbersFrom 0 taskCount)
 
 -- "status, value and whole mask" of a call; "status and the mask bits of X's tasks for each tick, but not its value"
 pub data Observation : Type 0 where
@@ -77,8 +77,8 @@ pub record SameRecords (x : ℕ) (t t′ : Tables) : Type 0 where
 -- of two runs from fresh tables
 pub record Noninterference (x : ℕ) (ps ps′ : List ℕ) (calls calls′ : List Call) : Type 0 where
   pub observations-equal : observations x (run (freshTables ps) calls .events) ≡ observations x (run (freshTables ps′) calls′ .events)
-  pub wakes-none : all (map (wakesNoTaskOf x) (run (freshTables ps) calls .events)) ≡ true
-  pub wakes-none′ : all (map (wakesNoTaskOf x) (run (freshTables ps′) calls′ .events)) ≡ true
+  pub wakes-none : allTrue (map (wakesNoTaskOf x) (run (freshTables ps) calls .events)) ≡ true
+  pub wakes-none′ : allTrue (map (wakesNoTaskOf x) (run (freshTables ps′) calls′ .events)) ≡ true
   pub records-equal : SameRecords x (run (freshTables ps) calls .tables) (run (freshTables ps′) calls′ .tables)
 
 -- Demand 3: for every share and every two runs in which X's tasks have equal priorities, X is confined, and "what is left of the two lists
@@ -89,8 +89,8 @@ Demand3 =
     → goodPriorities ps ≡ true
     → goodPriorities ps′ ≡ true
     → ((t : ℕ) → t < taskCount → shareOfTask t ≡ x → getD ps t 0 ≡ getD ps′ t 0)
-    → all (map argumentsInRange calls) ≡ true
-    → all (map argumentsInRange calls′) ≡ true
+    → allTrue (map argumentsInRange calls) ≡ true
+    → allTrue (map argumentsInRange calls′) ≡ true
     → purge x calls ≡ purge x calls′
-    → all (map (isConfined x) (purge x calls)) ≡ true
+    → allTrue (map (isConfined x) (purge x calls)) ≡ true
     → Noninterference x ps ps′ calls calls′

@@ -2,7 +2,7 @@
 -- every queue's and every task's record.
 use mathlib.Core.Logic.{_↔_}
 use Rattle.ranks.specs.Prelude.{ℕ, suc, _-_, _<_, _≡_, Bool, true, false, not, _||_, List, [], _∷_, _++_, map, length, getD, take, eqb, ltb}
-use Rattle.ranks.specs.Lists.{if_then_else_, filter, mask, range}
+use Rattle.ranks.specs.Lists.{if_then_else_, keepIf, mask, numbersFrom}
 use Rattle.ranks.specs.Position.{positionAt}
 use Rattle.ranks.specs.Steps.{byRank}
 use Rattle.records.specs.Split.{shareOfSlot, shareOfTask}
@@ -120,7 +120,7 @@ SameButCounts q q′ = q′ ≡ withCounts (q′ .pending) (q′ .waiters) q
 
 -- the mask with the bits of the tasks in a list
 abbrev pub maskOf : (tasks : List ℕ) → ℕ
-maskOf tasks = mask (map (λ t. member t tasks) (range 0 taskCount))
+maskOf tasks = mask (map (λ t. member t tasks) (numbersFrom 0 taskCount))
 
 -- The tests and the counts of the queue in the slot, and its waiters' ranks, are about its lists.
 pub record TestsOnLists (s : State) (slot : ℕ) : Type 0 where
@@ -170,13 +170,13 @@ pub record IdentOnTables (s : State) (caller name share : ℕ) (a : Answer) : Ty
 
 -- the tasks whose last tick has come
 abbrev pub expired : State → List ℕ
-expired s = filter (λ k. expires (taskAt s k)) (range 0 taskCount)
+expired s = keepIf (λ k. expires (taskAt s k)) (numbersFrom 0 taskCount)
 
 -- A tick, with the outcome `r`: "all that reach 0 become ready together [...]. Value: how many; mask set."
 pub record TickOnLists (s : State) (r : Outcome State) : Type 0 where
   pub lists : (i : ℕ) → i < slotCount
       → contents (r .after) i
-      ≡ record { messages = contents s i .messages; waiters = filter (λ k. not (expires (taskAt s k))) (contents s i .waiters) }
+      ≡ record { messages = contents s i .messages; waiters = keepIf (λ k. not (expires (taskAt s k))) (contents s i .waiters) }
   pub status : r .answer .status ≡ SUCCESSFUL
   pub value : r .answer .value ≡ length (expired s)
   pub woken : r .answer .woken ≡ maskOf (expired s)
@@ -187,22 +187,22 @@ pub record TickOnLists (s : State) (r : Outcome State) : Type 0 where
 -- ---- On any sound tables `t`
 
 -- the outcome of a call, with the tables as records
-abbrev pub outcomeOf : Tables → Call → Outcome State
-outcomeOf t c = record { answer = step t c .answer; after = decode (step t c .after) }
+abbrev pub outcomeOn : Tables → Call → Outcome State
+outcomeOn t c = record { answer = step t c .answer; after = decode (step t c .after) }
 
 pub record QueuesAsLists : Type 0 where
   pub tests : (t : Tables) → SoundTables t → (slot : ℕ) → slot < slotCount → TestsOnLists (decode t) slot
   -- calls that are not refused
   pub operation : (t : Tables) (caller id : ℕ) (o : Operation) → SoundTables t → argumentsInRange (call caller (onQueue id o)) ≡ true
       → NotRefused (step t (call caller (onQueue id o)) .answer)
-      → OperationOnLists (decode t) (slotOf id) (outcomeOf t (call caller (onQueue id o)))
+      → OperationOnLists (decode t) (slotOf id) (outcomeOn t (call caller (onQueue id o)))
       (onList (decode t) caller (slotOf id) o (contents (decode t) (slotOf id)))
       (taskAfter caller o (contents (decode t) (slotOf id))) (queueAfter o)
   pub create : (t : Tables) (caller name limit maxSize attributes : ℕ) → SoundTables t
       → argumentsInRange (call caller (create name limit maxSize attributes)) ≡ true
       → NotRefused (step t (call caller (create name limit maxSize attributes)) .answer)
-      → CreateOnTables (decode t) (shareOfTask caller) name limit maxSize attributes (outcomeOf t (call caller (create name limit maxSize attributes)))
+      → CreateOnTables (decode t) (shareOfTask caller) name limit maxSize attributes (outcomeOn t (call caller (create name limit maxSize attributes)))
   pub ident-changes-nothing : (t : Tables) (caller name share : ℕ) → SoundTables t → step t (call caller (ident name share)) .after ≡ t
   pub ident : (t : Tables) (caller name share : ℕ) → SoundTables t → NotRefused (step t (call caller (ident name share)) .answer)
       → IdentOnTables (decode t) caller name share (step t (call caller (ident name share)) .answer)
-  pub tick : (t : Tables) → SoundTables t → TickOnLists (decode t) (outcomeOf t tick)
+  pub tick : (t : Tables) → SoundTables t → TickOnLists (decode t) (outcomeOn t tick)

@@ -2,7 +2,7 @@
 ghost use mathlib.Core.Path.{_≡_};
 ghost use Prim.Native.Nat.{_<_, min};
 ghost use lib.ListN.{length};
-ghost use Rattle.ranks.specs.Lists.{range};
+ghost use Rattle.ranks.specs.Lists.{numbersFrom};
 ghost use Rattle.specification.specs.Run.{freshTables};
 ghost use Rattle.manager.specs.Outcomes.{answerOf};
 ghost use Rattle.worked_cases.specs.Told.{bytes, answer, sameAnswer, oneMore, countWrong, lastMessage};
@@ -45,7 +45,7 @@ impl Story {
 
     // A case begins, from fresh tables.
     pub fn case(mut self, headline: &[u8]) -> Story
-        ensures { λ r. ⌜ bytes (r .tables) ≡ freshTables (range 1 32) ⌝ }
+        ensures { λ r. ⌜ bytes (r .tables) ≡ freshTables (numbersFrom 1 32) ⌝ }
     {
         print(b"\n");
         print(headline);
@@ -58,7 +58,7 @@ impl Story {
 
     // One of the runs of a case, from fresh tables.
     pub fn part(mut self, headline: &[u8]) -> Story
-        ensures { λ r. ⌜ bytes (r .tables) ≡ freshTables (range 1 32) ⌝ }
+        ensures { λ r. ⌜ bytes (r .tables) ≡ freshTables (numbersFrom 1 32) ⌝ }
     {
         print(b"- ");
         print(headline);

@@ -1,6 +1,6 @@
 // The three tables as one value, and the directives that the cases call, on it.
 ghost use mathlib.Core.Path.{_≡_};
-ghost use Rattle.ranks.specs.Lists.{range};
+ghost use Rattle.ranks.specs.Lists.{numbersFrom};
 ghost use Rattle.specification.specs.Call.{call, tick, create, onQueue, delete, send, urgent, broadcast, receive, getNumberPending, flush};
 ghost use Rattle.specification.specs.Run.{freshTables};
 ghost use Rattle.specification.specs.Step.{step};
@@ -31,7 +31,7 @@ pub struct Outcome {
 
 // "Fresh tables are zero but for priorities of 1 to 255": priority t+1 for task t.
 pub fn fresh() -> Tables
-    ensures { λ r. ⌜ bytes r ≡ freshTables (range 1 32) ⌝ }
+    ensures { λ r. ⌜ bytes r ≡ freshTables (numbersFrom 1 32) ⌝ }
 {
     let t = logio::fresh::fresh();
     let queues = t.queues;

@@ -4,13 +4,13 @@ use mathlib.Core.Bool.{Bool, true, false, _&&_, _||_}
 use mathlib.Core.List.{[], _∷_}
 use Prim.Native.Nat.{_/_}
 use lib.Dec.{eqb}
-use Rattle.ranks.specs.Lists.{all}
+use Rattle.ranks.specs.Lists.{allTrue}
 use borrow.Author.Needs.{needs}
 use Rattle.coremsg.proofs.lookup.usable.Statement.{statement}
 use Rattle.coremsg.proofs.lookup.usable.Tie as tie
 
-all-three : (a b c : Bool) → a && (b && c) ≡ all (a ∷ b ∷ c ∷ [])
-unfolding all
+all-three : (a b c : Bool) → a && (b && c) ≡ allTrue (a ∷ b ∷ c ∷ [])
+unfolding allTrue
 all-three true true true = refl
 all-three true true false = refl
 all-three true false c = refl

@@ -9,7 +9,7 @@ use lib.ListN.{length, set, replicate, length-set}
 use Rattle.specification.specs.Run.{freshTables}
 use Rattle.records.specs.Bytes.{encode, encodeTask, toLittleEndian}
 use Rattle.records.specs.Records.{fresh}
-use Rattle.ranks.specs.Lists.{mapWithIndex, mapFromIndex, range}
+use Rattle.ranks.specs.Lists.{mapWithIndex, mapFromIndex, numbersFrom}
 use Rattle.logio.proofs.fresh.fresh_tasks.Statement.{statement}
 use Rattle.logio.proofs.fresh.fresh_tasks.Tie as tie
 
@@ -19,8 +19,8 @@ prioritized zero = replicate 4352 0
 prioritized (suc k) = set (prioritized k) (k * 136 + 3) (suc k)
 
 -- of all tasks: the fresh table
-all-prioritized : prioritized 32 ≡ freshTables (range 1 32) .tasks
-unfolding prioritized freshTables encode encodeTask toLittleEndian fresh mapWithIndex mapFromIndex range flatten
+all-prioritized : prioritized 32 ≡ freshTables (numbersFrom 1 32) .tasks
+unfolding prioritized freshTables encode encodeTask toLittleEndian fresh mapWithIndex mapFromIndex numbersFrom flatten
 all-prioritized = refl
 
 abbrev Inv-loop : tie.InvT-loop

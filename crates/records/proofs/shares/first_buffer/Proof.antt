@@ -10,7 +10,7 @@ use Rattle.records.proofs.shares.first_buffer.Statement.{statement}
 use Rattle.records.proofs.shares.first_buffer.Tie as tie
 
 returns : tie.Need-returns
-unfolding Lists.range Split.split Split.firstBuffer
+unfolding Lists.numbersFrom Split.split Split.firstBuffer
 returns c = agree (λ i. i * 16) Split.firstBuffer 4 refl (c .args .share) (c .pre)
 
 pub first-buffer-spec : {M : Type 1} → statement M

@@ -10,7 +10,7 @@ use Rattle.records.proofs.shares.owns_buffer.Statement.{statement}
 use Rattle.records.proofs.shares.owns_buffer.Tie as tie
 
 returns : tie.Need-returns
-unfolding Lists.range Lists.first Split.split Split.shareOfBuffer
+unfolding Lists.numbersFrom Lists.firstTrue Split.split Split.shareOfBuffer
 returns c = ap (eqb (c .args .share)) (agree (λ i. i / 16) Split.shareOfBuffer 64 refl (c .args .b) (c .pre))
 
 pub owns-buffer-spec : {M : Type 1} → statement M

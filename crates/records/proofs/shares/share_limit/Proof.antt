@@ -10,7 +10,7 @@ use Rattle.records.proofs.shares.share_limit.Statement.{statement}
 use Rattle.records.proofs.shares.share_limit.Tie as tie
 
 returns : tie.Need-returns
-unfolding Lists.range Split.split Split.shareLimit
+unfolding Lists.numbersFrom Split.split Split.shareLimit
 returns c = agree (λ i. 16) Split.shareLimit 4 refl (c .args .share) (c .pre)
 
 pub share-limit-spec : {M : Type 1} → statement M

@@ -10,7 +10,7 @@ use Rattle.records.proofs.shares.share_of_slot.Statement.{statement}
 use Rattle.records.proofs.shares.share_of_slot.Tie as tie
 
 returns : tie.Need-returns
-unfolding Lists.range Lists.first Split.split Split.shareOfSlot
+unfolding Lists.numbersFrom Lists.firstTrue Split.split Split.shareOfSlot
 returns c = agree (λ i. i / 4) Split.shareOfSlot 16 refl (c .args .slot) (c .pre)
 
 pub share-of-slot-spec : {M : Type 1} → statement M

@@ -10,7 +10,7 @@ use Rattle.records.proofs.shares.share_of_task.Statement.{statement}
 use Rattle.records.proofs.shares.share_of_task.Tie as tie
 
 returns : tie.Need-returns
-unfolding Lists.range Lists.first Split.split Split.shareOfTask
+unfolding Lists.numbersFrom Lists.firstTrue Split.split Split.shareOfTask
 returns c = agree (λ i. i / 8) Split.shareOfTask 32 refl (c .args .task) (c .pre)
 
 pub share-of-task-spec : {M : Type 1} → statement M

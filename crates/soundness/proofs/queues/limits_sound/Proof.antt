@@ -8,7 +8,7 @@ use mathlib.Core.List.{List}
 use borrow.Author.Needs.{needs}
 use lib.Dec.{leb}
 use borrow.Author.Tests.{le-leb, lt-leb}
-use Rattle.ranks.specs.Lists.{range}
+use Rattle.ranks.specs.Lists.{numbersFrom}
 use Rattle.ranks.proofs.Lists.{length-range, at-range}
 use Rattle.records.specs.Split.{split, shareCount, shareLimit}
 use Rattle.specification.specs.Sound.{limits, soundLimits}
@@ -21,7 +21,7 @@ abbrev test : List ℕ → ℕ → ℕ → Bool
 test queues i share = leb (limits (onlyQueues queues) share) (shareLimit share)
 
 abbrev Inv-search : tie.InvT-search
-Inv-search queues good₀ share₀ good share = AllBelow (test queues) (range 0 4) 4 good share
+Inv-search queues good₀ share₀ good share = AllBelow (test queues) (numbersFrom 0 4) 4 good share
 
 abbrev μ-search : tie.MeasureT-search
 μ-search queues good₀ share₀ good share = 4 - share

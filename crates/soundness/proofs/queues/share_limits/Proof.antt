@@ -7,7 +7,7 @@ use native.Mathlib.Omega.{arith}
 use mathlib.Core.List.{List}
 use borrow.Author.Needs.{needs}
 use lib.ListN.{getD, drop, length}
-use Rattle.ranks.specs.Lists.{mapWithIndex, sum as total}
+use Rattle.ranks.specs.Lists.{mapWithIndex, sumOf as total}
 use Rattle.ranks.specs.Table.{slice}
 use Rattle.ranks.proofs.Lists.{at-mapped, length-mapped, every-at}
 use Rattle.records.specs.Records.{Queue, freeQueue}

@@ -6,7 +6,7 @@ use Prim.Native.Nat.{ℕ, _≤_, _<_, _+_, _*_, _-_}
 use native.Mathlib.Nat.{zero-add}
 use native.Mathlib.Omega.{arith}
 use lib.ListN.{length, getD, drop}
-use Rattle.ranks.specs.Lists.{sum}
+use Rattle.ranks.specs.Lists.{sumOf}
 use Rattle.ranks.specs.Table.{slice}
 use Rattle.ranks.proofs.Searches.{AllBelow, all-below, answered, one-more-passes, all-pass, one-fails}
 use Rattle.records.specs.Records.{freeQueue}
@@ -22,7 +22,7 @@ use Rattle.soundness.proofs.ranked.every_ranked.Tie as tie
 
 abbrev Inv-ranks : tie.InvT-ranks
 Inv-ranks queues seen messages good slot n taken₀ rank₀ taken rank =
-    (rank ≤ 32) × ((taken ≤ rank) × (taken + sum (drop rank (slice (slot * 32) 32 seen)) ≡ sum (slice (slot * 32) 32 seen)))
+    (rank ≤ 32) × ((taken ≤ rank) × (taken + sumOf (drop rank (slice (slot * 32) 32 seen)) ≡ sumOf (slice (slot * 32) 32 seen)))
 
 abbrev μ-ranks : tie.MeasureT-ranks
 μ-ranks queues seen messages good slot n taken₀ rank₀ taken rank =
@@ -62,7 +62,7 @@ ranks-again c =
       omega (arith, c .before .ranks-test .taken),
       (
         omega (arith, c .before .before .ranks .inv .1 .0, c .before .before .before .before .before .before .before .before .before .before .before .pre .1 .1 (slot * 32 + rank) lt),
-        ap (λ (m : ℕ). c .before .before .ranks .taken + m + sum (drop (rank + 1) (slice (slot * 32) 32 seen))) (sym e)
+        ap (λ (m : ℕ). c .before .before .ranks .taken + m + sumOf (drop (rank + 1) (slice (slot * 32) 32 seen))) (sym e)
             ∙ sum-more (slice (slot * 32) 32 seen) rank (c .before .before .ranks .taken) (omega (arith, c .before .ranks-test .taken, long (c .before .before .before .before .before .before .before .before .before .before .before) slot (c .before .before .before .before .before .before .before .search-test .taken))) (c .before .before .ranks .inv .1 .1),
       ),
     )

@@ -3,7 +3,7 @@ use Prim.Native.Nat.{ℕ}
 use mathlib.Core.Path.{_≡_, sym, _∙_}
 use lib.ListN.{drop}
 use borrow.Author.Tests.{not-false}
-use Rattle.ranks.specs.Lists.{all, every}
+use Rattle.ranks.specs.Lists.{allTrue, every}
 use Rattle.ranks.proofs.Tests.{both}
 use Rattle.records.specs.Bytes.{decode, decodeTasks}
 use Rattle.specification.specs.Sound.{soundTask, sound}
@@ -16,7 +16,7 @@ use Rattle.soundness.proofs.search.is_sound.Tie as tie
 -- what is left of the search after k parts says whether the tables are sound
 abbrev Rest : ℕ → tie.Start → Type 0
 Rest k s =
-    all (drop k (tests (s .args .queues .now) (s .args .pool .now) (s .args .tasks .now)))
+    allTrue (drop k (tests (s .args .queues .now) (s .args .pool .now) (s .args .tasks .now)))
     ≡ sound (decode (record { queues = s .args .queues .now; pool = s .args .pool .now; tasks = s .args .tasks .now }))
 
 whole : (s : tie.Start) → Rest 0 s

@@ -4,7 +4,7 @@ use native.Mathlib.Omega.{arith}
 use mathlib.Core.Path.{sym, ap₂, _∙_}
 use mathlib.Core.Bool.{Bool, _&&_, _||_}
 use lib.Dec.{eqb}
-use Rattle.ranks.specs.Lists.{all}
+use Rattle.ranks.specs.Lists.{allTrue}
 use Rattle.ranks.specs.Table.{byte}
 use Rattle.records.specs.Records.{Queue, freeQueue, isLive, isOpen}
 use Rattle.records.specs.Bytes.{decodeQueue, decodeTask}
@@ -49,7 +49,7 @@ returns-5 c =
     let r = a .r .now in
     let lt = c .before .before .before .before .if4 .left in
     c .waiting-task .ensures
-    ∙ ap₂ (λ (own : Bool) (q : Queue). all (taskRules (decodeTask r)) && (isLive q && (own || isOpen q) && eqb (byte 4 r) 14 && eqb (byte 5 r) 0))
+    ∙ ap₂ (λ (own : Bool) (q : Queue). allTrue (taskRules (decodeTask r)) && (isLive q && (own || isOpen q) && eqb (byte 4 r) 14 && eqb (byte 5 r) 0))
     (ap₂ eqb (c .before .before .share-of-slot .ensures) (c .before .share-of-task .ensures))
     (c .before .before .before .read-queue .ensures ∙ sym (at-table decodeQueue 16 16 t (c .before .before .before .before .before .before .wide .result - 1) lt (freeQueue 0)))
     ∙ task-waiting (onlyQueues t) (a .t) (decodeTask r) (c .before .before .before .before .before .before .before .before .if2 .left) (c .before .before .before .before .before .before .wide .result - 1) (sym (c .before .before .before .before .before .before .wide .ensures .0) ∙ omega arith) lt

@@ -1,15 +1,15 @@
 // Messages: the buffers of a queue.
 ghost use mathlib.Core.Path.{_≡_};
 ghost use Prim.Native.Nat.{_*_, _<_, _≤_};
-ghost use lib.Dec.{eqb};
 ghost use lib.ListN.{length};
-ghost use Rattle.ranks.specs.Lists.{if_then_else_, mapWithIndex, firstTrue};
+ghost use Rattle.ranks.specs.Lists.{findIndex};
 ghost use Rattle.ranks.specs.Position.{inQueue, positionAt};
-ghost use Rattle.ranks.specs.Steps.{inserted, takenOut, Room, recordAt};
+ghost use Rattle.ranks.specs.Steps.{Room, recordAt};
 ghost use Rattle.ranks.specs.Table.{slice, records};
 ghost use Rattle.records.specs.Bytes.{decodeBuffer, decodePool, decodeTasks};
-ghost use Rattle.records.specs.Changes.{atIndex, moveBuffer, messageBuffer, withMessage};
+ghost use Rattle.records.specs.Changes.{changeAt, messageBuffer, withMessage, insertBuffer, takeOutBuffer};
 ghost use Rattle.records.specs.Records.{freeBuffer, messageIn};
+ghost use Rattle.specification.specs.Lookup.{freeIfIn, withoutMessages};
 ghost use Rattle.specification.specs.Submit.{isFreeOf};
 use ranks::first;
 use ranks::insert;
@@ -32,7 +32,7 @@ pub fn belongs_to(pool: &[u8], b: usize, slot: usize) -> bool
 // Buffer b is zeroed where it belongs to the queue in the slot.
 fn clear_where_belongs(pool: &mut [u8], b: usize, slot: usize)
     requires { ⌜ (b < 64) × ((slot < 16) × (length (now pool) ≡ 8192)) ⌝ }
-    ensures { λ _. ⌜ decodePool (now (pool .exit)) ≡ mapWithIndex (atIndex b (λ m. if inQueue slot (m .position) then freeBuffer else m)) (decodePool (now (pool .entry))) ⌝ }
+    ensures { λ _. ⌜ decodePool (now (pool .exit)) ≡ changeAt b (freeIfIn slot) (decodePool (now (pool .entry))) ⌝ }
 {
     if belongs_to(pool, b, slot) {
         clear_buffer(pool, b);
@@ -42,7 +42,7 @@ fn clear_where_belongs(pool: &mut [u8], b: usize, slot: usize)
 // The buffers of the queue in the slot are zeroed.
 pub fn clear_messages(pool: &mut [u8], slot: usize)
     requires { ⌜ (slot < 16) × (length (now pool) ≡ 8192) ⌝ }
-    ensures { λ _. ⌜ decodePool (now (pool .exit)) ≡ mapWithIndex (λ b m. if inQueue slot (m .position) then freeBuffer else m) (decodePool (now (pool .entry))) ⌝ }
+    ensures { λ _. ⌜ decodePool (now (pool .exit)) ≡ withoutMessages slot (decodePool (now (pool .entry))) ⌝ }
 {
     let mut b = 0;
     while b < 64 {
@@ -62,7 +62,7 @@ fn is_free(pool: &[u8], share: usize, b: usize) -> bool
 // The lowest such buffer, or 64. No buffer before the first of the share is one.
 pub fn free_buffer(pool: &[u8], share: usize) -> usize
     requires { ⌜ (length (now pool) ≡ 8192) × (share < 4) ⌝ }
-    ensures { λ r. ⌜ r ≡ firstTrue (mapWithIndex (isFreeOf share) (decodePool (now (pool .entry)))) ⌝ }
+    ensures { λ r. ⌜ r ≡ findIndex (isFreeOf share) (decodePool (now (pool .entry))) ⌝ }
 {
     let mut b = first_buffer(share);
     while b < 64 {
@@ -78,7 +78,7 @@ pub fn free_buffer(pool: &[u8], share: usize) -> usize
 pub fn enqueue(pool: &mut [u8], b: usize, slot: usize, rank: u8, message: &[u8])
     requires { ⌜ (b < 64) × ((slot < 16) × ((length (now pool) ≡ 8192) × ((length (now message) ≤ 120) × Room 0 slot (records 64 128 (now pool))))) ⌝ }
     ensures { λ _. ⌜ decodePool (now (pool .exit))
-        ≡ mapWithIndex (λ j m. if eqb j b then messageBuffer (positionAt slot rank) (now (message .entry)) else moveBuffer (inserted b slot rank j (m .position)) m) (decodePool (now (pool .entry))) ⌝ }
+        ≡ insertBuffer b slot rank (λ _. messageBuffer (positionAt slot rank) (now (message .entry))) (decodePool (now (pool .entry))) ⌝ }
 {
     let at = insert(pool, 128, 0, 64, b, slot as u8, rank);
     write_message(pool, b, (slot + 1) as u8, at, message);
@@ -103,7 +103,7 @@ pub fn message_size(pool: &[u8], b: usize) -> usize
 // Task t gets the message in buffer b, of n bytes.
 pub fn copy_message(tasks: &mut [u8], t: usize, pool: &[u8], b: usize, n: usize)
     requires { ⌜ (t < 32) × ((b < 64) × ((length (now tasks) ≡ 4352) × ((length (now pool) ≡ 8192) × ((n ≡ decodeBuffer (slice (b * 128) 128 (now pool)) .messageLength) × (n ≤ 120))))) ⌝ }
-    ensures { λ _. ⌜ decodeTasks (now (tasks .exit)) ≡ mapWithIndex (atIndex t (withMessage (messageIn (decodeBuffer (slice (b * 128) 128 (now (pool .entry))))))) (decodeTasks (now (tasks .entry))) ⌝ }
+    ensures { λ _. ⌜ decodeTasks (now (tasks .exit)) ≡ changeAt t (withMessage (messageIn (decodeBuffer (slice (b * 128) 128 (now (pool .entry)))))) (decodeTasks (now (tasks .entry))) ⌝ }
 {
     let from = b * 128 + 8;
     deliver(tasks, t, &pool[from..from + n]);
@@ -112,7 +112,7 @@ pub fn copy_message(tasks: &mut [u8], t: usize, pool: &[u8], b: usize, n: usize)
 // Buffer b leaves the queue in the slot, where it stands at rank 0, and is zeroed; those behind move up.
 pub fn remove_message(pool: &mut [u8], slot: usize, b: usize)
     requires { ⌜ (slot < 16) × ((b < 64) × (length (now pool) ≡ 8192)) ⌝ }
-    ensures { λ _. ⌜ decodePool (now (pool .exit)) ≡ mapWithIndex (λ j m. if eqb j b then freeBuffer else moveBuffer (takenOut b slot 0 j (m .position)) m) (decodePool (now (pool .entry))) ⌝ }
+    ensures { λ _. ⌜ decodePool (now (pool .exit)) ≡ takeOutBuffer b slot 0 (λ _. freeBuffer) (decodePool (now (pool .entry))) ⌝ }
 {
     take_out(pool, 128, 0, 64, b, slot as u8, 0);
     clear_buffer(pool, b);

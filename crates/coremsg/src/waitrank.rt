@@ -2,11 +2,9 @@
 ghost use mathlib.Core.Path.{_≡_};
 ghost use Prim.Native.Nat.{_*_, _<_, min};
 ghost use lib.ListN.{length};
-ghost use Rattle.ranks.specs.Lists.{if_then_else_, mapWithIndex, minimum};
 ghost use Rattle.ranks.specs.Table.{slice};
 ghost use Rattle.records.specs.Bytes.{decodeTasks, decodeTask};
-ghost use Rattle.records.specs.Records.{hasPriority};
-ghost use Rattle.specification.specs.Receive.{rankBehind};
+ghost use Rattle.specification.specs.Receive.{rankBehind, priorityRank, rankFor};
 use crate::lookup::has_priority;
 use records::queue::QueueRecord;
 use records::task::read_head;
@@ -33,7 +31,7 @@ fn rank_behind(tasks: &[u8], t: usize, slot: usize, priority: u8, rear: u8) -> u
 // The least such rank of all tasks.
 fn priority_rank(tasks: &[u8], slot: usize, priority: u8, rear: u8) -> u8
     requires { ⌜ (slot < 16) × (length (now tasks) ≡ 4352) ⌝ }
-    ensures { λ r. ⌜ r ≡ minimum rear (mapWithIndex (λ j w. rankBehind slot priority rear w) (decodeTasks (now (tasks .entry)))) ⌝ }
+    ensures { λ r. ⌜ r ≡ priorityRank slot priority rear (decodeTasks (now (tasks .entry))) ⌝ }
 {
     let mut least = rear;
     let mut t = 32;
@@ -47,9 +45,7 @@ fn priority_rank(tasks: &[u8], slot: usize, priority: u8, rear: u8) -> u8
 // "at the rear, or with PRIORITY behind all of equal or smaller number"
 pub fn wait_rank(tasks: &[u8], q: QueueRecord, caller: usize, slot: usize) -> u8
     requires { ⌜ (slot < 16) × ((caller < 32) × (length (now tasks) ≡ 4352)) ⌝ }
-    ensures { λ r. ⌜ r ≡ (if hasPriority q
-        then minimum (q .waiters) (mapWithIndex (λ j w. rankBehind slot (decodeTask (slice (caller * 136) 136 (now (tasks .entry))) .priority) (q .waiters) w) (decodeTasks (now (tasks .entry))))
-        else q .waiters) ⌝ }
+    ensures { λ r. ⌜ r ≡ rankFor q slot (decodeTask (slice (caller * 136) 136 (now (tasks .entry))) .priority) (decodeTasks (now (tasks .entry))) ⌝ }
 {
     if !has_priority(q) {
         return q.waiters;

@@ -5,13 +5,12 @@ use mathlib.Core.Bool.{not}
 use mathlib.Core.List.{List, [], _∷_}
 use lib.Count.{ones}
 use lib.ListN.{length}
-use Rattle.ranks.specs.Lists.{if_then_else_, mapWithIndex, mask, allTrue}
-use Rattle.ranks.specs.Position.{inQueue}
+use Rattle.ranks.specs.Lists.{mask, allTrue}
 use Rattle.ranks.specs.Table.{slice}
 use Rattle.records.specs.Layout.{slotOf}
 use Rattle.records.specs.Records.{Queue, sizeAllowed}
 use Rattle.records.specs.Bytes.{Tables, decodeQueue, decodeQueues, decodeTasks, decode, encode}
-use Rattle.records.specs.Changes.{atIndex, withWaiters, withMessage}
+use Rattle.records.specs.Changes.{changeAt, withWaiters, withMessage}
 use Rattle.records.specs.Status.{INVALID-ID, INVALID-SIZE}
 use Rattle.records.proofs.Access.{ones-mask}
 use Rattle.specification.specs.Answer.{Refusal, _⇒_, firstStatus}
@@ -42,13 +41,13 @@ module _ (t : Tables) (caller id : ℕ) (message : List ℕ) (q : Queue) (read :
     pub broadcast-size : SoundFacts (decode t) → length message ≤ 120
     broadcast-size g = message-fits t caller id (broadcast message) q read g (length message) (none .1 .0)
 
-    pub broadcast-done : (queues′ tasks′ : List ℕ) (woken : ℕ) → woken ≡ mask (mapWithIndex (λ k w. inQueue (slotOf id) (w .position)) (decodeTasks (t .tasks)))
-        → decodeQueues queues′ ≡ mapWithIndex (atIndex (slotOf id) (withWaiters 0)) (decodeQueues (t .queues))
-        → decodeTasks tasks′ ≡ mapWithIndex (λ k w. if inQueue (slotOf id) (w .position) then withMessage message w else w) (decodeTasks (t .tasks))
+    pub broadcast-done : (queues′ tasks′ : List ℕ) (woken : ℕ) → woken ≡ mask (waitersOf (slotOf id) (decodeTasks (t .tasks)))
+        → decodeQueues queues′ ≡ changeAt (slotOf id) (withWaiters 0) (decodeQueues (t .queues))
+        → decodeTasks tasks′ ≡ withoutWaiters (slotOf id) (withMessage message) (decodeTasks (t .tasks))
         → encode (decode (tables queues′ (t .pool) tasks′)) ≡ tables queues′ (t .pool) tasks′
         → Answers t caller id (broadcast message) q read (Successful (ones woken) woken) (tables queues′ (t .pool) tasks′)
-    unfolding answerOf operationEffect Broadcast.effect withoutWaiters waitersOf decode
+    unfolding answerOf operationEffect Broadcast.effect decode
     broadcast-done queues′ tasks′ woken e written delivered same =
         done t caller id (broadcast message) q read of-size broadcast-tests none (Successful (ones woken) woken) (tables queues′ (t .pool) tasks′)
-        (λ i. record { status = 0; value = (ap ones e ∙ ones-mask (waitersOf (decode t) (slotOf id))) i; woken = e i })
+        (λ i. record { status = 0; value = (ap ones e ∙ ones-mask (waitersOf (slotOf id) (decode t .tasks))) i; woken = e i })
         (left queues′ (t .pool) tasks′ (Broadcast.effect (decode t) (slotOf id) message .after) same written refl delivered)

@@ -3,14 +3,13 @@ use Prim.Native.Nat.{ℕ, _*_, _%_}
 use mathlib.Core.Path.{_≡_, refl, sym, ap}
 use mathlib.Core.Bool.{false, not}
 use mathlib.Core.List.{List, [], _∷_}
-use Rattle.ranks.specs.Lists.{if_then_else_, mapWithIndex, mask, allTrue}
-use Rattle.ranks.specs.Position.{inQueue}
+use Rattle.ranks.specs.Lists.{mask, allTrue}
 use Rattle.ranks.specs.Table.{slice}
 use Rattle.records.specs.Layout.{slotOf}
-use Rattle.records.specs.Records.{Queue, freeBuffer, freeQueue}
+use Rattle.records.specs.Records.{Queue, freeQueue}
 use Rattle.records.specs.Bytes.{Tables, decodeQueue, decodeQueues, decodePool, decodeTasks, decode, encode}
-use Rattle.records.specs.Changes.{atIndex, withPending, readyWith}
-use Rattle.records.specs.Status.{INVALID-ID, ILLEGAL-ON-REMOTE-OBJECT}
+use Rattle.records.specs.Changes.{changeAt, withPending, readyWith}
+use Rattle.records.specs.Status.{INVALID-ID, OBJECT-WAS-DELETED, ILLEGAL-ON-REMOTE-OBJECT}
 use Rattle.specification.specs.Answer.{Refusal, _⇒_, firstStatus}
 use Rattle.specification.specs.Call.{getNumberPending, flush, delete}
 use Rattle.specification.specs.Lookup.{usableQueue, isForeign, waitersOf, withoutMessages, withoutWaiters}
@@ -36,26 +35,26 @@ module _ (t : Tables) (caller id : ℕ) (q : Queue) (read : q ≡ decodeQueue (s
   of-owner = (isForeign caller (slotOf id) ⇒ ILLEGAL-ON-REMOTE-OBJECT) ∷ []
 
   module _ (passed : 0 ≡ firstStatus ((not (usableQueue q caller id) ⇒ INVALID-ID) ∷ of-owner)) (queues′ pool′ : List ℕ)
-      (cleared : decodePool pool′ ≡ mapWithIndex (λ b m. if inQueue (slotOf id) (m .position) then freeBuffer else m) (decodePool (t .pool))) where
+      (cleared : decodePool pool′ ≡ withoutMessages (slotOf id) (decodePool (t .pool))) where
     none : None ((not (usableQueue q caller id) ⇒ INVALID-ID) ∷ of-owner)
     unfolding allTrue
     none = none-holds ((not (usableQueue q caller id) ⇒ INVALID-ID) ∷ of-owner) refl passed
 
-    pub flush-done : decodeQueues queues′ ≡ mapWithIndex (atIndex (slotOf id) (withPending 0)) (decodeQueues (t .queues))
+    pub flush-done : decodeQueues queues′ ≡ changeAt (slotOf id) (withPending 0) (decodeQueues (t .queues))
         → encode (decode (tables queues′ pool′ (t .tasks))) ≡ tables queues′ pool′ (t .tasks)
         → Answers t caller id flush q read (Successful (q .pending) 0) (tables queues′ pool′ (t .tasks))
-    unfolding answerOf operationRefusals operationEffect Flush.refusals Flush.effect withoutMessages decode
+    unfolding answerOf operationRefusals operationEffect Flush.refusals Flush.effect decode
     flush-done written same =
         done t caller id flush q read of-owner refl none (Successful (q .pending) 0) (tables queues′ pool′ (t .tasks))
         (ap (λ (x : Queue). answerOf (Successful (x .pending) 0)) (sym (queue-is t caller id flush q read)))
         (left queues′ pool′ (t .tasks) (Flush.effect (decode t) (slotOf id) .after) same written cleared refl)
 
-    pub delete-done : (tasks′ : List ℕ) (woken : ℕ) → woken ≡ mask (mapWithIndex (λ k w. inQueue (slotOf id) (w .position)) (decodeTasks (t .tasks)))
-        → decodeQueues queues′ ≡ mapWithIndex (atIndex (slotOf id) (λ x. freeQueue (x .generation))) (decodeQueues (t .queues))
-        → decodeTasks tasks′ ≡ mapWithIndex (λ k w. if inQueue (slotOf id) (w .position) then readyWith 8 w else w) (decodeTasks (t .tasks))
+    pub delete-done : (tasks′ : List ℕ) (woken : ℕ) → woken ≡ mask (waitersOf (slotOf id) (decodeTasks (t .tasks)))
+        → decodeQueues queues′ ≡ changeAt (slotOf id) (λ x. freeQueue (x .generation)) (decodeQueues (t .queues))
+        → decodeTasks tasks′ ≡ withoutWaiters (slotOf id) (readyWith OBJECT-WAS-DELETED) (decodeTasks (t .tasks))
         → encode (decode (tables queues′ pool′ tasks′)) ≡ tables queues′ pool′ tasks′
         → Answers t caller id delete q read (Successful 0 woken) (tables queues′ pool′ tasks′)
-    unfolding answerOf operationRefusals operationEffect Delete.refusals Delete.effect withoutMessages withoutWaiters waitersOf decode
+    unfolding answerOf operationRefusals operationEffect Delete.refusals Delete.effect decode
     delete-done tasks′ woken e written readied same =
         done t caller id delete q read of-owner refl none (Successful 0 woken) (tables queues′ pool′ tasks′)
         (ap (λ (m : ℕ). answerOf (Successful 0 m)) e)

@@ -7,16 +7,16 @@ use mathlib.Core.Logic.{⊎-elim}
 use mathlib.Core.List.{List, [], _∷_}
 use lib.Dec.{eqb, leb, ltb}
 use borrow.Author.Tests.{eqb-true, lt-ltb, le-ltb}
-use Rattle.ranks.specs.Lists.{if_then_else_, mapWithIndex, minimum, countTrue, allTrue}
+use Rattle.ranks.specs.Lists.{if_then_else_, mapWithIndex, countTrue, allTrue}
 use Rattle.ranks.specs.Position.{positionAt, inQueue}
-use Rattle.ranks.specs.Steps.{inserted, takenOut, recordAt, Room}
+use Rattle.ranks.specs.Steps.{recordAt, Room}
 use Rattle.ranks.specs.Table.{slice, records}
 use Rattle.ranks.proofs.Lists.{length-mapped, holds}
 use Rattle.ranks.proofs.ByRank.{counted}
 use Rattle.records.specs.Layout.{slotOf}
 use Rattle.records.specs.Records.{Queue, Buffer, Task, State, freeBuffer, freshTask, messageIn, hasPriority, queueAt, bufferAt, taskAt}
 use Rattle.records.specs.Bytes.{Tables, decodeQueue, decodeBuffer, decodeTask, decodeQueues, decodePool, decodeTasks, decode, encode}
-use Rattle.records.specs.Changes.{atIndex, withPending, withWaiters, moveBuffer, moveTask, withMessage, waitingAt}
+use Rattle.records.specs.Changes.{atIndex, withPending, withWaiters, withMessage, waitingAt, takeOutBuffer, insertTask}
 use Rattle.records.specs.Status.{INVALID-ID, INVALID-OPTION, UNSATISFIED}
 use Rattle.records.proofs.Access.{buffer-at, task-at}
 use Rattle.specification.specs.Answer.{Outcome, Refusal, _⇒_, firstStatus}
@@ -24,7 +24,7 @@ use Rattle.specification.specs.Call.{receive}
 use Rattle.specification.specs.Lookup.{usableQueue, firstMessage}
 use Rattle.specification.specs.Sound.{freeBufferRules}
 use Rattle.specification.specs.Receive
-use Rattle.specification.specs.Receive.{received, waiting, rankBehind, waitRank}
+use Rattle.specification.specs.Receive.{received, waiting, rankFor, waitRank}
 use Rattle.specification.specs.Step.{operationRefusals, operationEffect}
 use Rattle.specification.proofs.Rules.{Unused, buffer-rules}
 use Rattle.specification.proofs.SoundFacts.{SoundFacts}
@@ -81,7 +81,7 @@ module _ (t : Tables) (caller id option ticks : ℕ) (q : Queue) (read : q ≡ d
       pub received-done : b < 64 → (n : ℕ) → n ≡ decodeBuffer (slice (b * 128) 128 (t .pool)) .messageLength
           → (queues′ pool′ tasks′ : List ℕ)
           → decodeQueues queues′ ≡ mapWithIndex (atIndex (slotOf id) (λ x. withPending (x .pending - 1) x)) (decodeQueues (t .queues))
-          → decodePool pool′ ≡ mapWithIndex (λ j m. if eqb j b then freeBuffer else moveBuffer (takenOut b (slotOf id) 0 j (m .position)) m) (decodePool (t .pool))
+          → decodePool pool′ ≡ takeOutBuffer b (slotOf id) 0 (λ _. freeBuffer) (decodePool (t .pool))
           → decodeTasks tasks′ ≡ mapWithIndex (atIndex caller (withMessage (messageIn (decodeBuffer (slice (b * 128) 128 (t .pool)))))) (decodeTasks (t .tasks))
           → encode (decode (tables queues′ pool′ tasks′)) ≡ tables queues′ pool′ tasks′
           → Answers t caller id (receive option ticks) q read (Successful n 0) (tables queues′ pool′ tasks′)
@@ -100,7 +100,7 @@ module _ (t : Tables) (caller id option ticks : ℕ) (q : Queue) (read : q ≡ d
       pub waiting-done : 64 ≤ b → (rank : ℕ) → rank ≡ waitRank (decode t) caller (slotOf id) → (queues′ tasks′ : List ℕ)
           → decodeQueues queues′ ≡ mapWithIndex (atIndex (slotOf id) (λ x. withWaiters (suc (x .waiters)) x)) (decodeQueues (t .queues))
           → decodeTasks tasks′
-          ≡ mapWithIndex (λ j w. if eqb j caller then waitingAt (positionAt (slotOf id) rank) ticks w else moveTask (inserted caller (slotOf id) rank j (w .position)) w) (decodeTasks (t .tasks))
+          ≡ insertTask caller (slotOf id) rank (waitingAt (positionAt (slotOf id) rank) ticks) (decodeTasks (t .tasks))
           → encode (decode (tables queues′ (t .pool) tasks′)) ≡ tables queues′ (t .pool) tasks′
           → Answers t caller id (receive option ticks) q read Waiting (tables queues′ (t .pool) tasks′)
       unfolding answerOf operationEffect Receive.effect waiting decode
@@ -115,10 +115,8 @@ module _ (t : Tables) (caller id option ticks : ℕ) (q : Queue) (read : q ≡ d
 
   -- the rank that the code comes to
   pub wait-rank-is : caller < 32 → (rank : ℕ)
-      → rank
-      ≡ (if hasPriority q
-      then minimum (q .waiters) (mapWithIndex (λ j w. rankBehind (slotOf id) (decodeTask (slice (caller * 136) 136 (t .tasks)) .priority) (q .waiters) w) (decodeTasks (t .tasks)))
-      else q .waiters) → rank ≡ waitRank (decode t) caller (slotOf id)
+      → rank ≡ rankFor q (slotOf id) (decodeTask (slice (caller * 136) 136 (t .tasks)) .priority) (decodeTasks (t .tasks))
+      → rank ≡ waitRank (decode t) caller (slotOf id)
   unfolding waitRank decode
   wait-rank-is h rank e = rw (here, task-at t caller h) e
 

@@ -9,13 +9,13 @@ use lib.ListN.{length}
 use borrow.Author.Tests.{lt-ltb, le-ltb, le-leb, leb-false}
 use Rattle.ranks.specs.Lists.{if_then_else_, mapWithIndex, firstTrue, allTrue}
 use Rattle.ranks.specs.Position.{positionAt}
-use Rattle.ranks.specs.Steps.{inserted, takenOut, recordAt, Room}
+use Rattle.ranks.specs.Steps.{recordAt, Room}
 use Rattle.ranks.specs.Table.{slice, records}
 use Rattle.records.specs.Layout.{slotOf}
 use Rattle.records.specs.Split.{shareOfSlot}
 use Rattle.records.specs.Records.{Queue, Buffer, State, sizeAllowed, queueAt, bufferAt, freshTask}
 use Rattle.records.specs.Bytes.{Tables, decodeQueue, decodeBuffer, decodeTask, decodeQueues, decodePool, decodeTasks, decode, encode}
-use Rattle.records.specs.Changes.{atIndex, withPending, withWaiters, moveBuffer, messageBuffer, moveTask, withMessage}
+use Rattle.records.specs.Changes.{atIndex, withPending, withWaiters, messageBuffer, withMessage, insertBuffer, takeOutTask}
 use Rattle.records.specs.Status.{INVALID-ID, INVALID-SIZE, TOO-MANY, NO-BUFFER}
 use Rattle.records.proofs.Access.{buffer-at}
 use Rattle.records.proofs.Writing.{length-table}
@@ -113,7 +113,7 @@ module _ (t : Tables) (caller id : ℕ) (message : List ℕ) (front : Bool) (q :
 
         pub delivered-done : (queues′ tasks′ : List ℕ) (woken : ℕ) → woken ≡ 2 ^ k
             → decodeQueues queues′ ≡ mapWithIndex (atIndex (slotOf id) (λ x. withWaiters (x .waiters - 1) x)) (decodeQueues (t .queues))
-            → decodeTasks tasks′ ≡ mapWithIndex (λ j w. if eqb j k then withMessage message w else moveTask (takenOut k (slotOf id) 0 j (w .position)) w) (decodeTasks (t .tasks))
+            → decodeTasks tasks′ ≡ takeOutTask k (slotOf id) 0 (withMessage message) (decodeTasks (t .tasks))
             → encode (decode (tables queues′ (t .pool) tasks′)) ≡ tables queues′ (t .pool) tasks′
             → Answers t caller id operation q read (Successful 0 woken) (tables queues′ (t .pool) tasks′)
         unfolding answerOf delivered leave decode
@@ -145,7 +145,7 @@ module _ (t : Tables) (caller id : ℕ) (message : List ℕ) (front : Bool) (q :
 
         pub enqueued-done : (queues′ pool′ : List ℕ) (rank : ℕ) → rank ≡ (if front then 0 else q .pending)
             → decodeQueues queues′ ≡ mapWithIndex (atIndex (slotOf id) (λ x. withPending (suc (x .pending)) x)) (decodeQueues (t .queues))
-            → decodePool pool′ ≡ mapWithIndex (λ j m. if eqb j b then messageBuffer (positionAt (slotOf id) rank) message else moveBuffer (inserted b (slotOf id) rank j (m .position)) m) (decodePool (t .pool))
+            → decodePool pool′ ≡ insertBuffer b (slotOf id) rank (λ _. messageBuffer (positionAt (slotOf id) rank) message) (decodePool (t .pool))
             → encode (decode (tables queues′ pool′ (t .tasks))) ≡ tables queues′ pool′ (t .tasks)
             → Answers t caller id operation q read (Successful 0 0) (tables queues′ pool′ (t .tasks))
         unfolding answerOf enqueued decode

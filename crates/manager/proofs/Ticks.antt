@@ -10,15 +10,15 @@ use lib.Dec.{eqb, leb}
 use lib.ListN.{length}
 use borrow.Author.Tests.{eqb-true}
 use Rattle.ranks.specs.Lists.{if_then_else_, mapWithIndex, mask, numbersFrom}
-use Rattle.ranks.specs.Steps.{takenOut}
 use Rattle.ranks.specs.Table.{slice}
 use Rattle.ranks.proofs.Tests.{both}
 use Rattle.records.specs.Records.{Task, State, taskAt}
 use Rattle.records.specs.Bytes.{Tables, decodeTask, decodeQueues, decodePool, decodeTasks, decode, encode, rightLengths}
-use Rattle.records.specs.Changes.{atIndex, moveTask, readyWith, withTicks, withWaiters}
+use Rattle.records.specs.Changes.{atIndex, readyWith, withTicks, withWaiters, takeOutTask}
 use Rattle.records.specs.TaskHeads.{headOf}
 use Rattle.records.specs.declared.task.TaskHead.{TaskHead}
 use Rattle.records.proofs.Access.{task-at, ones-mask}
+use Rattle.records.specs.Status.{TIMEOUT}
 use Rattle.records.proofs.EncodeDecode.{encode-decode}
 use Rattle.specification.specs.Call.{tick}
 use Rattle.specification.specs.Lookup.{leave}
@@ -53,7 +53,7 @@ module _ (q p w : List ℕ) (t : ℕ) (h : t < 32) (x : TaskHead) (read : x ≡ 
 
   pub timed-out : (q′ w′ : List ℕ) (slot : ℕ) → (eqb (x .state) 1 && eqb (x .ticksLeft) 1) ≡ true → slot ≡ pred (x .queue)
       → decodeQueues q′ ≡ mapWithIndex (atIndex slot (λ y. withWaiters (y .waiters - 1) y)) (decodeQueues q)
-      → decodeTasks w′ ≡ mapWithIndex (λ j v. if eqb j t then readyWith 7 v else moveTask (takenOut t slot (x .rank) j (v .position)) v) (decodeTasks w)
+      → decodeTasks w′ ≡ takeOutTask t slot (x .rank) (readyWith TIMEOUT) (decodeTasks w)
       → decode (tables q′ p w′) ≡ tickTask (decode (tables q p w)) t
   unfolding decode leave
   timed-out q′ w′ slot e at eq ew =

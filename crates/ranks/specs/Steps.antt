@@ -28,6 +28,14 @@ ranked slot n ps =
     every (λ j p. inQueue slot p implies ltb (p .rank) n) ps
     && every (λ i r. eqb (countTrue (mapWithIndex (λ j p. standsAt slot r p) ps)) 1) (numbersFrom 0 n)
 
+-- ---- On a table whose records have a position: record `i` becomes what `f` makes of it, and `move` gives the others their positions
+
+abbrev pub insertInto : {A : Type 0} → (A → Position) → (Position → A → A) → (i slot rank : ℕ) → (A → A) → List A → List A
+insertInto position move i slot rank f xs = mapWithIndex (λ j x. if eqb j i then f x else move (inserted i slot rank j (position x)) x) xs
+
+abbrev pub takeOutOf : {A : Type 0} → (A → Position) → (Position → A → A) → (i slot rank : ℕ) → (A → A) → List A → List A
+takeOutOf position move i slot rank f xs = mapWithIndex (λ j x. if eqb j i then f x else move (takenOut i slot rank j (position x)) x) xs
+
 -- ---- For the code, on a table whose records have their position at byte `place`
 
 -- record `i` enters the queue at the rank, or leaves it from there

@@ -1,7 +1,8 @@
--- Changes to one record.
+-- Changes to one record, and to a table.
 use Rattle.ranks.specs.Prelude.{ℕ, true, false, List, _++_, length, drop, replicate, eqb}
-use Rattle.ranks.specs.Lists.{if_then_else_}
+use Rattle.ranks.specs.Lists.{if_then_else_, mapWithIndex}
 use Rattle.ranks.specs.Position.{Position, noQueue}
+use Rattle.ranks.specs.Steps.{insertInto, takeOutOf}
 use Rattle.records.specs.Layout.{capacity}
 use Rattle.records.specs.Records.{Queue, Buffer, Task, readyState, waitingState}
 use Rattle.records.specs.Status.{SUCCESSFUL, WAITING}
@@ -9,6 +10,10 @@ use Rattle.records.specs.Status.{SUCCESSFUL, WAITING}
 -- `f` is done to record `i` of a table, and nothing to the others
 abbrev pub atIndex : {A : Type 0} → ℕ → (A → A) → ℕ → A → A
 atIndex i f j a = if eqb j i then f a else a
+
+-- a table in which `f` is done to record `i`
+abbrev pub changeAt : {A : Type 0} → ℕ → (A → A) → List A → List A
+changeAt i f xs = mapWithIndex (atIndex i f) xs
 
 -- ---- Queues
 
@@ -108,3 +113,17 @@ withMessage message w = withWait readyState noQueue 0 (withResult SUCCESSFUL (le
 -- The task waits: "status 14, length 0, ticks left as given".
 abbrev pub waitingAt : Position → (ticks : ℕ) → Task → Task
 waitingAt p ticks w = withWait waitingState p ticks (withResult WAITING 0 (w .receiveBuffer) w)
+
+-- ---- A message or a task enters a queue at a rank, or leaves it from there, as `f` says of its record; those behind follow
+
+abbrev pub insertBuffer : (b slot rank : ℕ) → (Buffer → Buffer) → List Buffer → List Buffer
+insertBuffer b slot rank f pool = insertInto (λ m. m .position) moveBuffer b slot rank f pool
+
+abbrev pub takeOutBuffer : (b slot rank : ℕ) → (Buffer → Buffer) → List Buffer → List Buffer
+takeOutBuffer b slot rank f pool = takeOutOf (λ m. m .position) moveBuffer b slot rank f pool
+
+abbrev pub insertTask : (t slot rank : ℕ) → (Task → Task) → List Task → List Task
+insertTask t slot rank f tasks = insertInto (λ w. w .position) moveTask t slot rank f tasks
+
+abbrev pub takeOutTask : (t slot rank : ℕ) → (Task → Task) → List Task → List Task
+takeOutTask t slot rank f tasks = takeOutOf (λ w. w .position) moveTask t slot rank f tasks

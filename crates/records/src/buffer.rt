@@ -2,10 +2,9 @@
 ghost use mathlib.Core.Path.{_≡_};
 ghost use Prim.Native.Nat.{_<_, _≤_};
 ghost use lib.ListN.{length};
-ghost use Rattle.ranks.specs.Lists.{mapWithIndex};
 ghost use Rattle.records.specs.Records.{freeBuffer};
 ghost use Rattle.records.specs.Bytes.{encodeBuffer, decodePool};
-ghost use Rattle.records.specs.Changes.{atIndex, messageBuffer};
+ghost use Rattle.records.specs.Changes.{changeAt, messageBuffer};
 use crate::bytes::copy_into;
 
 fn encode_message(queue: u8, rank: u8, message: &[u8]) -> [u8; 128]
@@ -23,7 +22,7 @@ fn encode_message(queue: u8, rank: u8, message: &[u8]) -> [u8; 128]
 // The message goes into buffer b, which stands at this rank of this queue.
 pub fn write_message(pool: &mut [u8], b: usize, queue: u8, rank: u8, message: &[u8])
     requires { ⌜ (length (now pool) ≡ 8192) × ((b < 64) × (length (now message) ≤ 120)) ⌝ }
-    ensures { λ _. ⌜ decodePool (now (pool .exit)) ≡ mapWithIndex (atIndex b (λ _. messageBuffer (record { queue = queue; rank = rank }) (now (message .entry)))) (decodePool (now (pool .entry))) ⌝ }
+    ensures { λ _. ⌜ decodePool (now (pool .exit)) ≡ changeAt b (λ _. messageBuffer (record { queue = queue; rank = rank }) (now (message .entry))) (decodePool (now (pool .entry))) ⌝ }
 {
     let r = encode_message(queue, rank, message);
     copy_into(pool, b * 128, &r);
@@ -32,7 +31,7 @@ pub fn write_message(pool: &mut [u8], b: usize, queue: u8, rank: u8, message: &[
 // Buffer b becomes free.
 pub fn clear_buffer(pool: &mut [u8], b: usize)
     requires { ⌜ (length (now pool) ≡ 8192) × (b < 64) ⌝ }
-    ensures { λ _. ⌜ decodePool (now (pool .exit)) ≡ mapWithIndex (atIndex b (λ _. freeBuffer)) (decodePool (now (pool .entry))) ⌝ }
+    ensures { λ _. ⌜ decodePool (now (pool .exit)) ≡ changeAt b (λ _. freeBuffer) (decodePool (now (pool .entry))) ⌝ }
 {
     let zeros = [0u8; 128];
     copy_into(pool, b * 128, &zeros);

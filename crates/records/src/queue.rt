@@ -2,10 +2,9 @@
 ghost use mathlib.Core.Path.{_≡_};
 ghost use Prim.Native.Nat.{_*_, _<_};
 ghost use lib.ListN.{length};
-ghost use Rattle.ranks.specs.Lists.{mapWithIndex};
 ghost use Rattle.ranks.specs.Table.{slice};
 ghost use Rattle.records.specs.Bytes.{decodeQueue, encodeQueue, decodeQueues};
-ghost use Rattle.records.specs.Changes.{atIndex, withPending, withWaiters, withGeneration};
+ghost use Rattle.records.specs.Changes.{changeAt, withPending, withWaiters, withGeneration};
 use crate::bytes::copy_into;
 use crate::bytes::read_u16;
 use crate::bytes::read_u32;
@@ -97,7 +96,7 @@ fn encode_queue(q: QueueRecord) -> [u8; 16]
 
 pub fn write_queue(queues: &mut [u8], slot: usize, q: QueueRecord)
     requires { ⌜ (slot < 16) × (length (now queues) ≡ 256) ⌝ }
-    ensures { λ _. ⌜ decodeQueues (now (queues .exit)) ≡ mapWithIndex (atIndex slot (λ _. q)) (decodeQueues (now (queues .entry))) ⌝ }
+    ensures { λ _. ⌜ decodeQueues (now (queues .exit)) ≡ changeAt slot (λ _. q) (decodeQueues (now (queues .entry))) ⌝ }
 {
     let b = encode_queue(q);
     copy_into(queues, slot * 16, &b);

@@ -2,10 +2,9 @@
 ghost use mathlib.Core.Path.{_≡_};
 ghost use Prim.Native.Nat.{_*_, _<_, _≤_};
 ghost use lib.ListN.{length};
-ghost use Rattle.ranks.specs.Lists.{mapWithIndex};
 ghost use Rattle.records.specs.Bytes.{decodeTask, decodeTasks};
 ghost use Rattle.ranks.specs.Table.{slice};
-ghost use Rattle.records.specs.Changes.{atIndex, withMessage};
+ghost use Rattle.records.specs.Changes.{changeAt, withMessage};
 ghost use Rattle.records.specs.TaskHeads.{headOf, withHead, readyHead, waitingHead, tickedHead};
 use crate::bytes::copy_into;
 use crate::bytes::read_u32;
@@ -104,7 +103,7 @@ fn encode_head(r: &mut [u8], h: TaskHead)
 
 pub fn write_head(tasks: &mut [u8], t: usize, h: TaskHead)
     requires { ⌜ (t < 32) × (length (now tasks) ≡ 4352) ⌝ }
-    ensures { λ _. ⌜ decodeTasks (now (tasks .exit)) ≡ mapWithIndex (atIndex t (withHead h)) (decodeTasks (now (tasks .entry))) ⌝ }
+    ensures { λ _. ⌜ decodeTasks (now (tasks .exit)) ≡ changeAt t (withHead h) (decodeTasks (now (tasks .entry))) ⌝ }
 {
     let from = t * 136;
     encode_head(&mut tasks[from..from + 136], h);
@@ -136,7 +135,7 @@ fn deliver_to(r: &mut [u8], message: &[u8])
 // The message goes to task t.
 pub fn deliver(tasks: &mut [u8], t: usize, message: &[u8])
     requires { ⌜ (length (now tasks) ≡ 4352) × ((t < 32) × (length (now message) ≤ 120)) ⌝ }
-    ensures { λ _. ⌜ decodeTasks (now (tasks .exit)) ≡ mapWithIndex (atIndex t (withMessage (now (message .entry)))) (decodeTasks (now (tasks .entry))) ⌝ }
+    ensures { λ _. ⌜ decodeTasks (now (tasks .exit)) ≡ changeAt t (withMessage (now (message .entry))) (decodeTasks (now (tasks .entry))) ⌝ }
 {
     let from = t * 136;
     deliver_to(&mut tasks[from..from + 136], message);

@@ -1,10 +1,10 @@
 -- Document 01: "Create (name, limit, max size, attributes)".
 use Rattle.ranks.specs.Prelude.{ℕ, suc, _+_, Bool, not, List, [], _∷_, replicate, eqb, leb, ltb}
-use Rattle.ranks.specs.Lists.{mapWithIndex, allTrue, findIndex}
+use Rattle.ranks.specs.Lists.{allTrue, findIndex}
 use Rattle.records.specs.Split.{shareOfSlot, shareLimit}
 use Rattle.records.specs.Layout.{slotCount, idOf}
 use Rattle.records.specs.Records.{Queue, State, limitAllowed, maxSizeAllowed, queueAt}
-use Rattle.records.specs.Changes.{atIndex}
+use Rattle.records.specs.Changes.{changeAt}
 use Rattle.records.specs.Status.{SUCCESSFUL, INVALID-NAME, INVALID-SIZE, INVALID-NUMBER, TOO-MANY, UNSATISFIED, INVALID-OPTION}
 use Rattle.specification.specs.Answer.{Outcome, outcome, Refusal, _⇒_}
 use Rattle.specification.specs.Sound.{limits}
@@ -48,7 +48,7 @@ unfoldable pub effect : State → (slot name limit maxSize attributes : ℕ) →
 effect s slot name limit maxSize attributes =
     outcome SUCCESSFUL (idOf (suc (queueAt s slot .generation)) slot) 0
     (record {
-      queues = mapWithIndex (atIndex slot (λ q. newQueue (suc (q .generation)) name limit maxSize attributes)) (s .queues);
+      queues = changeAt slot (λ q. newQueue (suc (q .generation)) name limit maxSize attributes) (s .queues);
       pool = s .pool;
       tasks = s .tasks;
     })

@@ -1,8 +1,8 @@
 -- Document 01: "Delete".
 use Rattle.ranks.specs.Prelude.{ℕ, List, [], _∷_}
-use Rattle.ranks.specs.Lists.{mapWithIndex, mask}
+use Rattle.ranks.specs.Lists.{mask}
 use Rattle.records.specs.Records.{State, freeQueue}
-use Rattle.records.specs.Changes.{atIndex, readyWith}
+use Rattle.records.specs.Changes.{changeAt, readyWith}
 use Rattle.records.specs.Status.{SUCCESSFUL, OBJECT-WAS-DELETED, ILLEGAL-ON-REMOTE-OBJECT}
 use Rattle.specification.specs.Answer.{Outcome, outcome, Refusal, _⇒_}
 use Rattle.specification.specs.Lookup.{isForeign, waitersOf, withoutWaiters, withoutMessages}
@@ -14,9 +14,9 @@ refusals caller slot = (isForeign caller slot ⇒ ILLEGAL-ON-REMOTE-OBJECT) ∷ 
 -- "Waiters become ready with status 8, in the mask; buffers are zeroed; the record is zeroed but for its generation."
 unfoldable pub effect : State → (slot : ℕ) → Outcome State
 effect s slot =
-    outcome SUCCESSFUL 0 (mask (waitersOf s slot))
+    outcome SUCCESSFUL 0 (mask (waitersOf slot (s .tasks)))
     (record {
-      queues = mapWithIndex (atIndex slot (λ q. freeQueue (q .generation))) (s .queues);
-      pool = withoutMessages s slot;
-      tasks = withoutWaiters s slot (readyWith OBJECT-WAS-DELETED);
+      queues = changeAt slot (λ q. freeQueue (q .generation)) (s .queues);
+      pool = withoutMessages slot (s .pool);
+      tasks = withoutWaiters slot (readyWith OBJECT-WAS-DELETED) (s .tasks);
     })

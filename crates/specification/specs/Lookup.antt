@@ -2,11 +2,11 @@
 use Rattle.ranks.specs.Prelude.{ℕ, _-_, Bool, true, false, _||_, not, List, [], _∷_, eqb, ltb}
 use Rattle.ranks.specs.Lists.{if_then_else_, mapWithIndex, allTrue}
 use Rattle.ranks.specs.Position.{inQueue}
-use Rattle.ranks.specs.Steps.{takenOut, recordAt}
+use Rattle.ranks.specs.Steps.{recordAt}
 use Rattle.records.specs.Split.{shareOfSlot, shareOfTask}
 use Rattle.records.specs.Layout.{slotOf, generationOf, bufferCount, taskCount}
 use Rattle.records.specs.Records.{Queue, Buffer, Task, State, isLive, isOpen, freeBuffer, queueAt}
-use Rattle.records.specs.Changes.{atIndex, withWaiters, moveTask}
+use Rattle.records.specs.Changes.{changeAt, withWaiters, takeOutTask}
 
 -- "An id is usable if its slot (id mod 16) is live, id div 16 is its generation, and the slot is in the caller's share or OPEN."
 -- The queue in the id's slot is `q`.
@@ -40,22 +40,30 @@ abbrev pub hasMessage : State → (slot : ℕ) → Bool
 hasMessage s slot = ltb (firstMessage s slot) bufferCount
 
 -- which tasks wait in the queue of a slot
-unfoldable pub waitersOf : State → (slot : ℕ) → List Bool
-waitersOf s slot = mapWithIndex (λ t w. inQueue slot (w .position)) (s .tasks)
+unfoldable pub waitersOf : (slot : ℕ) → List Task → List Bool
+waitersOf slot tasks = mapWithIndex (λ t w. inQueue slot (w .position)) tasks
 
 -- Task `t` leaves the queue of the slot, where it stands at the rank, as `f` says of its record; those behind move up.
 unfoldable pub leave : State → (t slot rank : ℕ) → (Task → Task) → State
 leave s t slot rank f =
     record {
-      queues = mapWithIndex (atIndex slot (λ q. withWaiters (q .waiters - 1) q)) (s .queues);
+      queues = changeAt slot (λ q. withWaiters (q .waiters - 1) q) (s .queues);
       pool = s .pool;
-      tasks = mapWithIndex (λ j w. if eqb j t then f w else moveTask (takenOut t slot rank j (w .position)) w) (s .tasks);
+      tasks = takeOutTask t slot rank f (s .tasks);
     }
 
--- Every task that waits in the queue of the slot leaves it, as `f` says of its record.
-unfoldable pub withoutWaiters : State → (slot : ℕ) → (Task → Task) → List Task
-withoutWaiters s slot f = mapWithIndex (λ t w. if inQueue slot (w .position) then f w else w) (s .tasks)
+-- a task that waits in the queue of the slot leaves it, as `f` says of its record
+abbrev pub leaveIfIn : (slot : ℕ) → (Task → Task) → Task → Task
+leaveIfIn slot f w = if inQueue slot (w .position) then f w else w
 
--- The buffers of the queue in the slot are zeroed.
-unfoldable pub withoutMessages : State → (slot : ℕ) → List Buffer
-withoutMessages s slot = mapWithIndex (λ b m. if inQueue slot (m .position) then freeBuffer else m) (s .pool)
+-- every task that waits there does
+unfoldable pub withoutWaiters : (slot : ℕ) → (Task → Task) → List Task → List Task
+withoutWaiters slot f tasks = mapWithIndex (λ t w. leaveIfIn slot f w) tasks
+
+-- a buffer of the queue in the slot is zeroed
+abbrev pub freeIfIn : (slot : ℕ) → Buffer → Buffer
+freeIfIn slot m = if inQueue slot (m .position) then freeBuffer else m
+
+-- every buffer of it is
+unfoldable pub withoutMessages : (slot : ℕ) → List Buffer → List Buffer
+withoutMessages slot pool = mapWithIndex (λ b m. freeIfIn slot m) pool

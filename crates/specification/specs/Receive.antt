@@ -2,9 +2,8 @@
 use Rattle.ranks.specs.Prelude.{ℕ, suc, _-_, true, false, _&&_, not, List, [], _∷_, eqb, ltb}
 use Rattle.ranks.specs.Lists.{if_then_else_, mapWithIndex, minimum}
 use Rattle.ranks.specs.Position.{positionAt, inQueue}
-use Rattle.ranks.specs.Steps.{inserted, takenOut}
-use Rattle.records.specs.Records.{Task, State, hasPriority, messageIn, freeBuffer, queueAt, bufferAt, taskAt}
-use Rattle.records.specs.Changes.{atIndex, withPending, withWaiters, moveBuffer, withMessage, moveTask, waitingAt}
+use Rattle.records.specs.Records.{Queue, Task, State, hasPriority, messageIn, freeBuffer, queueAt, bufferAt, taskAt}
+use Rattle.records.specs.Changes.{changeAt, withPending, withWaiters, withMessage, waitingAt, takeOutBuffer, insertTask}
 use Rattle.records.specs.Status.{SUCCESSFUL, UNSATISFIED, WAITING, INVALID-OPTION}
 use Rattle.specification.specs.Answer.{Outcome, outcome, Refusal, _⇒_}
 use Rattle.specification.specs.Lookup.{firstMessage, hasMessage}
@@ -19,34 +18,34 @@ received s caller slot b =
     let m = bufferAt s b in
     outcome SUCCESSFUL (m .messageLength) 0
     (record {
-      queues = mapWithIndex (atIndex slot (λ q. withPending (q .pending - 1) q)) (s .queues);
-      pool = mapWithIndex (λ j n. if eqb j b then freeBuffer else moveBuffer (takenOut b slot 0 j (n .position)) n) (s .pool);
-      tasks = mapWithIndex (atIndex caller (withMessage (messageIn m))) (s .tasks);
+      queues = changeAt slot (λ q. withPending (q .pending - 1) q) (s .queues);
+      pool = takeOutBuffer b slot 0 (λ _. freeBuffer) (s .pool);
+      tasks = changeAt caller (withMessage (messageIn m)) (s .tasks);
     })
 
 -- the rank of a task that waits in the queue of the slot and is less urgent than the priority, else the rear
 abbrev pub rankBehind : (slot priority rear : ℕ) → Task → ℕ
 rankBehind slot priority rear w = if inQueue slot (w .position) && ltb priority (w .priority) then w .position .rank else rear
 
--- "at the rear, or with PRIORITY behind all of equal or smaller number": at the least rank of a waiter of greater number, if there is one
+-- the least such rank of the tasks, or the rear
+abbrev pub priorityRank : (slot priority rear : ℕ) → List Task → ℕ
+priorityRank slot priority rear tasks = minimum rear (mapWithIndex (λ j w. rankBehind slot priority rear w) tasks)
+
+-- "at the rear, or with PRIORITY behind all of equal or smaller number", in the queue `q` of the slot
+abbrev pub rankFor : Queue → (slot priority : ℕ) → List Task → ℕ
+rankFor q slot priority tasks = if hasPriority q then priorityRank slot priority (q .waiters) tasks else q .waiters
+
 unfoldable pub waitRank : State → (caller slot : ℕ) → ℕ
-waitRank s caller slot =
-    let q = queueAt s slot in
-    if hasPriority q
-    then minimum (q .waiters) (mapWithIndex (λ j w. rankBehind slot (taskAt s caller .priority) (q .waiters) w) (s .tasks))
-    else q .waiters
+waitRank s caller slot = rankFor (queueAt s slot) slot (taskAt s caller .priority) (s .tasks)
 
 -- "Else the caller waits, status 14, length 0, ticks left as given"
 unfoldable pub waiting : State → (caller slot rank ticks : ℕ) → Outcome State
 waiting s caller slot rank ticks =
     outcome WAITING 0 0
     (record {
-      queues = mapWithIndex (atIndex slot (λ q. withWaiters (suc (q .waiters)) q)) (s .queues);
+      queues = changeAt slot (λ q. withWaiters (suc (q .waiters)) q) (s .queues);
       pool = s .pool;
-      tasks =
-          mapWithIndex
-          (λ j w. if eqb j caller then waitingAt (positionAt slot rank) ticks w else moveTask (inserted caller slot rank j (w .position)) w)
-          (s .tasks);
+      tasks = insertTask caller slot rank (waitingAt (positionAt slot rank) ticks) (s .tasks);
     })
 
 unfoldable pub effect : State → (caller slot ticks : ℕ) → Outcome State

@@ -3,11 +3,10 @@
 use Rattle.ranks.specs.Prelude.{ℕ, suc, Bool, true, false, _&&_, not, List, [], _∷_, length, eqb, leb}
 use Rattle.ranks.specs.Lists.{if_then_else_, mapWithIndex, findIndex, mask}
 use Rattle.ranks.specs.Position.{positionAt}
-use Rattle.ranks.specs.Steps.{inserted}
 use Rattle.records.specs.Split.{shareOfSlot, shareOfBuffer}
 use Rattle.records.specs.Layout.{bufferCount}
 use Rattle.records.specs.Records.{Queue, Buffer, State, sizeAllowed, queueAt}
-use Rattle.records.specs.Changes.{atIndex, withPending, moveBuffer, messageBuffer, withMessage}
+use Rattle.records.specs.Changes.{changeAt, withPending, messageBuffer, withMessage, insertBuffer}
 use Rattle.records.specs.Status.{SUCCESSFUL, INVALID-SIZE, TOO-MANY, NO-BUFFER}
 use Rattle.specification.specs.Answer.{Outcome, outcome, Refusal, _⇒_}
 use Rattle.specification.specs.Lookup.{firstWaiter, hasWaiter, leave}
@@ -45,11 +44,8 @@ unfoldable pub enqueued : State → (b slot rank : ℕ) (message : List ℕ) →
 enqueued s b slot rank message =
     outcome SUCCESSFUL 0 0
     (record {
-      queues = mapWithIndex (atIndex slot (λ q. withPending (suc (q .pending)) q)) (s .queues);
-      pool =
-          mapWithIndex
-          (λ j m. if eqb j b then messageBuffer (positionAt slot rank) message else moveBuffer (inserted b slot rank j (m .position)) m)
-          (s .pool);
+      queues = changeAt slot (λ q. withPending (suc (q .pending)) q) (s .queues);
+      pool = insertBuffer b slot rank (λ _. messageBuffer (positionAt slot rank) message) (s .pool);
       tasks = s .tasks;
     })
 

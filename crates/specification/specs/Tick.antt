@@ -3,7 +3,7 @@ use Rattle.ranks.specs.Prelude.{ℕ, _-_, Bool, true, false, _&&_, List, [], _�
 use Rattle.ranks.specs.Lists.{if_then_else_, mapWithIndex, countTrue, mask, numbersFrom}
 use Rattle.records.specs.Layout.{taskCount}
 use Rattle.records.specs.Records.{Task, State, isWaiting, taskAt}
-use Rattle.records.specs.Changes.{atIndex, withTicks, readyWith}
+use Rattle.records.specs.Changes.{changeAt, withTicks, readyWith}
 use Rattle.records.specs.Status.{SUCCESSFUL, TIMEOUT}
 use Rattle.specification.specs.Answer.{Outcome, outcome}
 use Rattle.specification.specs.Sound.{slotIn}
@@ -24,7 +24,7 @@ tickTask s t =
     if expires w
     then leave s t (slotIn (w .position)) (w .position .rank) (readyWith TIMEOUT)
     else if isTimed w
-    then record { queues = s .queues; pool = s .pool; tasks = mapWithIndex (atIndex t (withTicks (w .ticksLeft - 1))) (s .tasks) }
+    then record { queues = s .queues; pool = s .pool; tasks = changeAt t (withTicks (w .ticksLeft - 1)) (s .tasks) }
     else s
 
 -- The tasks of the list in turn. Leaving changes no other task's state or ticks, so all see the same tick and leave "together".

@@ -77,7 +77,7 @@ module _ {x : ℕ} {s : State} (p : Confined x s) where
       }
 
   withoutWaiters-home : (slot : ℕ) (f : Task → Task) → ((w : Task) → f w .position ≡ noQueue) → (t : ℕ) → t < 32 → shareOfTask t ≡ x → (k : ℕ)
-      → getD (withoutWaiters s slot f) t (freshTask 1) .position .queue ≡ suc k → shareOfSlot k ≡ x
+      → getD (withoutWaiters slot f (s .tasks)) t (freshTask 1) .position .queue ≡ suc k → shareOfSlot k ≡ x
   unfolding withoutWaiters
   withoutWaiters-home slot f nw = home-mapped _ (λ t w. gone-cases slot f nw (Stays w) w (λ _. gone w (f w) (nw w)) (λ _ k e. inl e))
 

@@ -75,7 +75,7 @@ module _ (t : Tables) (st : SoundTables t) where
   unfolding callOnRecords Counted effect operationEffect Broadcast.effect ones
   broadcast-ones caller id message =
       subst (λ (a : Answer). a .value ≡ ones (a .woken)) (sym (answer-is t st (call caller (onQueue id (broadcast message)))))
-      (refused-or Counted (decode t) _ _ (λ n. refl) (λ _. sym (ones-mask (waitersOf (decode t) _))))
+      (refused-or Counted (decode t) _ _ (λ n. refl) (λ _. sym (ones-mask (waitersOf _ (decode t .tasks)))))
 
   pub tick-ones : step t tick .answer .value ≡ ones (step t tick .answer .woken)
   unfolding callOnRecords Counted effect Tick.effect ones

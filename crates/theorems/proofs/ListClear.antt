@@ -31,7 +31,7 @@ module _ {s : State} (g : SoundFacts s) (slot : ℕ) (slot< : slot < 16) (s′ :
   other : (i : ℕ) → i < 16 → (i ≡ slot → ⊥) → queueAt s′ i ≡ queueAt s i
   other = CountChange.other s s′ g z′ slot slot< h e
 
-  module _ (f : Task → Task) (gone : (w : Task) → f w .position ≡ noQueue) (tasks : s′ .tasks ≡ withoutWaiters s slot f) where
+  module _ (f : Task → Task) (gone : (w : Task) → f w .position ≡ noQueue) (tasks : s′ .tasks ≡ withoutWaiters slot f (s .tasks)) where
     all-left : h (queueAt s slot) .waiters ≡ 0 → contents s′ slot .waiters ≡ []
     all-left none = no-waiters s′ slot (ap (λ (q : Queue). q .waiters) (CountChange.here s s′ g z′ slot slot< h e) ∙ none)
 
@@ -44,7 +44,7 @@ module _ {s : State} (g : SoundFacts s) (slot : ℕ) (slot< : slot < 16) (s′ :
     unfolding withoutWaiters
     cleared-tasks k lt = same-task _ _ (ap (λ (ws : List Task). getD ws k (freshTask 1)) tasks ∙ cleared-at (tasks-ranked s g slot slot<) slot f k lt _ (waits-in g slot slot< k lt))
 
-  module _ (pool : s′ .pool ≡ withoutMessages s slot) where
+  module _ (pool : s′ .pool ≡ withoutMessages slot (s .pool)) where
     all-removed : h (queueAt s slot) .pending ≡ 0 → contents s′ slot .messages ≡ []
     all-removed none = no-messages s′ slot (ap (λ (q : Queue). q .pending) (CountChange.here s s′ g z′ slot slot< h e) ∙ none)
 

@@ -168,7 +168,7 @@ changed-queues {s} g slot slot< s′ z′ h own e counts i i< =
 -- ---- Lists and counts
 
 module _ {s : State} (g : SoundFacts s) (slot : ℕ) (slot< : slot < 16) where
-  pub waiters-mask : mask (waitersOf s slot) ≡ maskOf (contents s slot .waiters)
+  pub waiters-mask : mask (waitersOf slot (s .tasks)) ≡ maskOf (contents s slot .waiters)
   unfolding waitersOf contents
   waiters-mask = mask-of _ (s .tasks) (freshTask 1) _ (g .sized .tasks) (λ k h. in-by-rank (tasks-ranked s g slot slot<) k h)
 

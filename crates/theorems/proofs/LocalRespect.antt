@@ -68,7 +68,7 @@ module _ {x : ℕ} {s : State} (p : Confined x s) where
     tasks-still F off = still-in shareOfTask (λ w. w .position) x 32 (freshTask 1) slot other F (s .tasks) (z .tasks) (tasks-in-own p) off
 
     -- none of the share's tasks waits in it
-    waiters-none : (t : ℕ) → t < 32 → shareOfTask t ≡ x → bit t (mask (waitersOf s slot)) ≡ 0
+    waiters-none : (t : ℕ) → t < 32 → shareOfTask t ≡ x → bit t (mask (waitersOf slot (s .tasks))) ≡ 0
     unfolding waitersOf
     waiters-none = mask-of-none x (λ t w. inQueue slot (w .position)) s z (λ t h o. ne-eqb _ _ (λ q. other (p .confined .home t h o slot q)))
 

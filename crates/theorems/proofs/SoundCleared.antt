@@ -67,7 +67,7 @@ emptied-cases slot P m h k = go (inQueue slot (m .position)) refl
 
 module _ (s s′ : State) (g : SoundFacts s) (slot : ℕ) (slot< : slot < 16) (f : Task → Task) (nw : (w : Task) → f w .position ≡ noQueue)
     (rdy : (t : ℕ) → t < 32 → taskAt s t .position .queue ≡ suc slot → Ready (f (taskAt s t)))
-    (e : s′ .tasks ≡ withoutWaiters s slot f) (n0 : queueAt s′ slot .waiters ≡ 0)
+    (e : s′ .tasks ≡ withoutWaiters slot f (s .tasks)) (n0 : queueAt s′ slot .waiters ≡ 0)
     (other : (i : ℕ) → i < 16 → (i ≡ slot → ⊥) → queueAt s′ i ≡ queueAt s i) where
   task-after : (j : ℕ) → j < 32 → taskAt s′ j ≡ gone slot f nw (taskAt s j)
   unfolding withoutWaiters
@@ -112,7 +112,7 @@ pub free-sound′ : (s : State) (b : ℕ) → soundBuffer s b freeBuffer ≡ tru
 unfolding freeBufferRules allTrue allZero
 free-sound′ s b = unused-sound s b freeBuffer (record { queue = refl; rules = refl })
 
-module _ (s s′ : State) (g : SoundFacts s) (slot : ℕ) (slot< : slot < 16) (e : s′ .pool ≡ withoutMessages s slot) (n0 : queueAt s′ slot .pending ≡ 0)
+module _ (s s′ : State) (g : SoundFacts s) (slot : ℕ) (slot< : slot < 16) (e : s′ .pool ≡ withoutMessages slot (s .pool)) (n0 : queueAt s′ slot .pending ≡ 0)
     (other : (i : ℕ) → i < 16 → (i ≡ slot → ⊥) → queueAt s′ i ≡ queueAt s i) where
   buffer-after : (j : ℕ) → j < 64 → bufferAt s′ j ≡ emptied slot (bufferAt s j)
   unfolding withoutMessages
@@ -170,7 +170,7 @@ broadcast-sound s g slot slot< message live allowed =
     (cleared-task s s′ g slot slot< (withMessage message) (λ w. refl) rdy refl n0 other)
   where
     s′ : State
-    s′ = record { queues = mapWithIndex (atIndex slot (withWaiters 0)) (s .queues); pool = s .pool; tasks = withoutWaiters s slot (withMessage message) }
+    s′ = record { queues = mapWithIndex (atIndex slot (withWaiters 0)) (s .queues); pool = s .pool; tasks = withoutWaiters slot (withMessage message) (s .tasks) }
 
     sized′ : Sized s′
     sized′ =
@@ -209,7 +209,7 @@ flush-sound s g slot slot< live =
     (λ t h. task-kept s s′ t (taskAt s t) kept (g .task t h))
   where
     s′ : State
-    s′ = record { queues = mapWithIndex (atIndex slot (withPending 0)) (s .queues); pool = withoutMessages s slot; tasks = s .tasks }
+    s′ = record { queues = mapWithIndex (atIndex slot (withPending 0)) (s .queues); pool = withoutMessages slot (s .pool); tasks = s .tasks }
 
     sized′ : Sized s′
     sized′ =

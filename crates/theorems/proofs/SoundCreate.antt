@@ -106,7 +106,7 @@ delete-sound s g slot slot< =
     clear q = freeQueue (q .generation)
 
     s′ : State
-    s′ = record { queues = mapWithIndex (atIndex slot clear) (s .queues); pool = withoutMessages s slot; tasks = withoutWaiters s slot (readyWith OBJECT-WAS-DELETED) }
+    s′ = record { queues = mapWithIndex (atIndex slot clear) (s .queues); pool = withoutMessages slot (s .pool); tasks = withoutWaiters slot (readyWith OBJECT-WAS-DELETED) (s .tasks) }
 
     sized′ : Sized s′
     sized′ =

@@ -142,7 +142,7 @@ module _ {x : ℕ} {s s′ : State} (p : Confined x s) (p′ : Confined x s′) 
     unfolding firstWaiter
     same-firstWaiter = ap firstTrue (waiters-alike false (λ t w. standsAt slot 0 (w .position)) (λ t w n. rw (ne-eqb _ _ n)))
 
-    same-waiters : waitersOf s slot ≡ waitersOf s′ slot
+    same-waiters : waitersOf slot (s .tasks) ≡ waitersOf slot (s′ .tasks)
     unfolding waitersOf
     same-waiters = waiters-alike false (λ t w. inQueue slot (w .position)) (λ t w n. ne-eqb _ _ n)
 

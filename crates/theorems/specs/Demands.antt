@@ -62,7 +62,7 @@ abbrev pub messageCount : State → (slot : ℕ) → ℕ
 messageCount s slot = countTrue (mapWithIndex (λ b m. inQueue slot (m .position)) (s .pool))
 
 abbrev pub waiterCount : State → (slot : ℕ) → ℕ
-waiterCount s slot = countTrue (waitersOf s slot)
+waiterCount s slot = countTrue (waitersOf slot (s .tasks))
 
 pub record AnswerInRange (a : Answer) : Type 0 where
   pub status : a .status ≤ 16

@@ -7,6 +7,7 @@ use Rattle.ranks.specs.Position.{inQueue}
 use Rattle.records.specs.Records.{Buffer, freeBuffer}
 use Rattle.records.specs.Bytes.{decodeBuffer}
 use Rattle.records.proofs.InTurn.{ChangedUpTo, none-changed, one-more-changed, all-changed}
+use Rattle.specification.specs.Lookup.{withoutMessages}
 use Rattle.coremsg.proofs.messages.clear_messages.Statement.{statement}
 use Rattle.coremsg.proofs.messages.clear_messages.Tie as tie
 
@@ -39,6 +40,7 @@ same-length : tie.Need-same-length Inv-loop μ-loop
 same-length c = c .before .loop .inv .size
 
 returns : tie.Need-returns Inv-loop μ-loop
+unfolding withoutMessages
 returns c =
     let a = c .before .before .before .args in
     let v = c .before .loop in

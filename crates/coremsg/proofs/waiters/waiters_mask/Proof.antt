@@ -2,6 +2,7 @@
 use borrow.Author.Needs.{needs}
 use native.Mathlib.Omega.{arith}
 use Rattle.ranks.specs.Position.{inQueue}
+use Rattle.specification.specs.Lookup.{waitersOf}
 use Rattle.coremsg.proofs.MaskFolds.{MaskFrom, mask-none, mask-fits, mask-more, mask-all}
 use Rattle.coremsg.proofs.waiters.waiters_mask.Statement.{statement}
 use Rattle.coremsg.proofs.waiters.waiters_mask.Tie as tie
@@ -32,6 +33,7 @@ loop-again c =
     mask-more (λ w. inQueue (a .slot) (w .position)) (a .tasks .now) (v .m) (v .t) (v .inv) (at .loop-test .taken) (c .before .waits-in .result) (c .with-bit .result) (c .before .waits-in .ensures) (c .with-bit .ensures)
 
 returns : tie.Need-returns Inv-loop μ-loop
+unfolding waitersOf
 returns c =
     let v = c .before .loop in
     let a = c .before .before .before .args in

@@ -100,13 +100,16 @@ freshTask priority =
       receiveBuffer = replicate capacity 0;
     }
 
+abbrev pub freshTasks : (priorities : List ℕ) → List Task
+freshTasks priorities = mapWithIndex (λ t priority. freshTask priority) priorities
+
 -- "Fresh tables are zero but for priorities of 1 to 255."
 unfoldable pub fresh : (priorities : List ℕ) → State
 fresh priorities =
     record {
       queues = replicate slotCount (freeQueue 0);
       pool = replicate bufferCount freeBuffer;
-      tasks = mapWithIndex (λ t priority. freshTask priority) priorities;
+      tasks = freshTasks priorities;
     }
 
 -- ---- A record by its number. The default is for numbers past the end, which tables of the right lengths are never asked for.

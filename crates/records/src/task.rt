@@ -2,6 +2,7 @@
 ghost use mathlib.Core.Path.{_≡_};
 ghost use Prim.Native.Nat.{_*_, _<_, _≤_};
 ghost use lib.ListN.{length};
+ghost use Rattle.records.specs.Records.{freshTask};
 ghost use Rattle.records.specs.Bytes.{decodeTask, decodeTasks};
 ghost use Rattle.ranks.specs.Table.{slice};
 ghost use Rattle.records.specs.Changes.{changeAt, withMessage};
@@ -139,4 +140,14 @@ pub fn deliver(tasks: &mut [u8], t: usize, message: &[u8])
 {
     let from = t * 136;
     deliver_to(&mut tasks[from..from + 136], message);
+}
+
+// Task t is ready with this priority, and the rest of its record is zero.
+pub fn write_fresh_task(tasks: &mut [u8], t: usize, priority: u8)
+    requires { ⌜ (length (now tasks) ≡ 4352) × (t < 32) ⌝ }
+    ensures { λ _. ⌜ decodeTasks (now (tasks .exit)) ≡ changeAt t (λ _. freshTask priority) (decodeTasks (now (tasks .entry))) ⌝ }
+{
+    let mut r = [0u8; 136];
+    r[3] = priority;
+    copy_into(tasks, t * 136, &r);
 }

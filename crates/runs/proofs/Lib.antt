@@ -1,2 +1,3 @@
+pub mod FreshTables
 pub mod Replays
 pub mod TableStatus

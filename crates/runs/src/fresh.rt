@@ -1,0 +1,68 @@
+// Fresh tables: "A run [...] starts on fresh tables."
+ghost use mathlib.Core.Path.{_≡_};
+ghost use mathlib.Core.Bool.{true};
+ghost use lib.ListN.{length};
+ghost use Rattle.records.specs.Records.{freshTasks};
+ghost use Rattle.records.specs.Bytes.{decodeTasks, rightLengths};
+ghost use Rattle.specification.specs.Run.{goodPriorities, freshTables};
+ghost use Rattle.manager.specs.Outcomes.{tables};
+ghost use Rattle.runs.specs.Fresh.{madeFresh};
+use manager::call::right_lengths;
+use records::bytes::copy_into;
+use records::task::write_fresh_task;
+
+// "priorities of 1 to 255", of 32 tasks
+pub fn good_priorities(priorities: &[u8]) -> bool
+    ensures { λ r. ⌜ r ≡ goodPriorities (now (priorities .entry)) ⌝ }
+{
+    if priorities.len() != 32 {
+        return false;
+    }
+    let mut good = true;
+    'search: for t in 0..32 {
+        if priorities[t] == 0 {
+            good = false;
+            break 'search;
+        }
+    }
+    good
+}
+
+// Each task is ready with its priority, and the rest of its record is zero.
+fn make_tasks(tasks: &mut [u8], priorities: &[u8])
+    requires { ⌜ (length (now tasks) ≡ 4352) × (length (now priorities) ≡ 32) ⌝ }
+    ensures { λ _. ⌜ decodeTasks (now (tasks .exit)) ≡ freshTasks (now (priorities .entry)) ⌝ }
+{
+    let mut t = 0;
+    while t < 32 {
+        write_fresh_task(tasks, t, priorities[t]);
+        t += 1;
+    }
+}
+
+// "Fresh tables are zero but for priorities", in tables of the right lengths.
+fn write_fresh(queues: &mut [u8], pool: &mut [u8], tasks: &mut [u8], priorities: &[u8])
+    requires { ⌜ (rightLengths (tables (now queues) (now pool) (now tasks)) ≡ true) × (length (now priorities) ≡ 32) ⌝ }
+    ensures { λ _. ⌜ tables (now (queues .exit)) (now (pool .exit)) (now (tasks .exit)) ≡ freshTables (now (priorities .entry)) ⌝ }
+{
+    let free_queues = [0u8; 256];
+    let free_buffers = [0u8; 8192];
+    copy_into(queues, 0, &free_queues);
+    copy_into(pool, 0, &free_buffers);
+    make_tasks(tasks, priorities);
+}
+
+// Makes the tables fresh, or does nothing where a table has a wrong length or a priority is wrong. Whether they are fresh.
+pub fn make_fresh(queues: &mut [u8], pool: &mut [u8], tasks: &mut [u8], priorities: &[u8]) -> bool
+    ensures { λ r. ⌜ (record { done = r; after = tables (now (queues .exit)) (now (pool .exit)) (now (tasks .exit)) })
+        ≡ madeFresh (tables (now (queues .entry)) (now (pool .entry)) (now (tasks .entry))) (now (priorities .entry)) ⌝ }
+{
+    if !right_lengths(queues, pool, tasks) {
+        return false;
+    }
+    if !good_priorities(priorities) {
+        return false;
+    }
+    write_fresh(queues, pool, tasks, priorities);
+    true
+}

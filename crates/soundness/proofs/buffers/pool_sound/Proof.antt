@@ -14,7 +14,7 @@ table : (s : tie.Start) → Table (soundBuffer (onlyQueues (s .args .queues .now
 table s = pool-table (s .args .queues .now) (s .args .pool .now) (s .pre .1)
 
 returns : tie.Need-returns
-returns c =    table-fails (table (c .before .before .before .before)) true (c .before .each-buffer-sound .ensures) (c .if1 .taken)
+returns c = table-fails (table (c .before .before .before .before)) true (c .before .each-buffer-sound .ensures) (c .if1 .taken)
 
 every-ranked-requires : tie.Need-every-ranked-requires
 every-ranked-requires c κs =
@@ -33,7 +33,7 @@ every-ranked-requires c κs =
     )
 
 returns-2 : tie.Need-returns-2
-returns-2 c =    ranks-decide (table (c .before .before .before .before .before)) true (c .before .before .each-buffer-sound .ensures) (c .before .if1 .left) (c .every-ranked .ensures)
+returns-2 c = ranks-decide (table (c .before .before .before .before .before)) true (c .before .before .each-buffer-sound .ensures) (c .before .if1 .left) (c .every-ranked .ensures)
 
 pub pool-sound-spec : {M : Type 1} → statement M
 pool-sound-spec = tie.close (tie.spec (search needs) returns every-ranked-requires returns-2)

@@ -91,13 +91,13 @@ counted c =
     all-counted (numbers-of (queue-of h)) (slot-of (queue-of h)) (c .before .before .before .before .ranks .rank) (among h) (c .before .records .inv) (omega (arith, c .records-test .left))
 
 search-holds : tie.Need-search-holds Inv-records μ-records Inv-ranks μ-ranks Inv-search μ-search
-search-holds c =    all-below
+search-holds c = all-below
 
 add-to : tie.Need-add-to Inv-records μ-records Inv-ranks μ-ranks Inv-search μ-search
-add-to c =    omega (arith, among c .inside, length-map (numbers-of (queue-of c)) positionOf, few (queue-of c))
+add-to c = omega (arith, among c .inside, length-map (numbers-of (queue-of c)) positionOf, few (queue-of c))
 
 ranks-holds : tie.Need-ranks-holds Inv-records μ-records Inv-ranks μ-ranks Inv-search μ-search
-ranks-holds c =    no-rank (queue-of c .before .before .before .search .inv .answer)
+ranks-holds c = no-rank (queue-of c .before .before .before .search .inv .answer)
 
 number-at-requires : tie.Need-number-at-requires Inv-records μ-records Inv-ranks μ-ranks Inv-search μ-search
 number-at-requires c κs =
@@ -110,10 +110,10 @@ records-holds c =
     none-counted (numbers-of (queue-of h)) (slot-of (queue-of h)) (c .before .before .ranks .rank) (among h) (omega arith)
 
 mul-one : tie.Need-mul-one Inv-records μ-records Inv-ranks μ-ranks Inv-search μ-search
-mul-one c =    omega (arith, one-of c, few (queue-of (c .before .before .before .before .before)))
+mul-one c = omega (arith, one-of c, few (queue-of (c .before .before .before .before .before)))
 
 shared-slice-read-one : tie.Need-shared-slice-read-one Inv-records μ-records Inv-ranks μ-ranks Inv-search μ-search
-shared-slice-read-one c =    one-of (c .before)
+shared-slice-read-one c = one-of (c .before)
 
 add-found : tie.Need-add-found Inv-records μ-records Inv-ranks μ-ranks Inv-search μ-search
 add-found c =
@@ -132,7 +132,7 @@ records-again c =
     (c .before .before .records-test .taken) (visited (queue-of h) .inside) (c .before .before .before .before .number-at .ensures) (c .one .ensures .0) (c .one .ensures .1)
 
 ranks-again : tie.Need-ranks-again Inv-records μ-records Inv-ranks μ-ranks Inv-search μ-search
-ranks-again c =    one-more-rank (c .before .before .before .before .before .ranks .inv) (c .before .before .before .before .ranks-test .taken) (sym (counted (c .before)) ∙ c .if2 .left)
+ranks-again c = one-more-rank (c .before .before .before .before .before .ranks .inv) (c .before .before .before .before .ranks-test .taken) (sym (counted (c .before)) ∙ c .if2 .left)
 
 search-again : tie.Need-search-again Inv-records μ-records Inv-ranks μ-ranks Inv-search μ-search
 search-again c =
@@ -144,7 +144,7 @@ search-again c =
     (c .if1 .came)
 
 returns : tie.Need-returns Inv-records μ-records Inv-ranks μ-ranks Inv-search μ-search
-returns c =    all-pass (freeQueue 0) (length-decoded _ _ _ _) (c .before .search .inv) (omega arith)
+returns c = all-pass (freeQueue 0) (length-decoded _ _ _ _) (c .before .search .inv) (omega arith)
 
 returns-2 : tie.Need-returns-2 Inv-records μ-records Inv-ranks μ-ranks Inv-search μ-search
 returns-2 c =

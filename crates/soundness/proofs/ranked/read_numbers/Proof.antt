@@ -21,19 +21,19 @@ within : (c : tie.In-loop Inv-loop μ-loop) → c .before .loop .k * c .before .
 within c = position-inside (c .before .before .before .pre .0) (c .before .loop .k) (c .loop-test .taken)
 
 loop-holds : tie.Need-loop-holds Inv-loop μ-loop
-loop-holds c =    record { bound = omega arith; size = length-replicate {A = ℕ} 64 0; each = λ j lt. absurd (omega arith) }
+loop-holds c = record { bound = omega arith; size = length-replicate {A = ℕ} 64 0; each = λ j lt. absurd (omega arith) }
 
 mul-read-number : tie.Need-mul-read-number Inv-loop μ-loop
-mul-read-number c =    omega (arith, within c)
+mul-read-number c = omega (arith, within c)
 
 add-read-number : tie.Need-add-read-number Inv-loop μ-loop
-add-read-number c =    omega (arith, within c)
+add-read-number c = omega (arith, within c)
 
 read-number-requires : tie.Need-read-number-requires Inv-loop μ-loop
-read-number-requires c κs =    omega (arith, within c)
+read-number-requires c κs = omega (arith, within c)
 
 array-write-numbers : tie.Need-array-write-numbers Inv-loop μ-loop
-array-write-numbers c =    omega (arith, c .before .before .loop .inv .size, c .before .before .before .before .pre .1)
+array-write-numbers c = omega (arith, c .before .before .loop .inv .size, c .before .before .before .before .pre .1)
 
 loop-again : tie.Need-loop-again Inv-loop μ-loop
 loop-again c =

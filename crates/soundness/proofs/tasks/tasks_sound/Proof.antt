@@ -14,7 +14,7 @@ table : (s : tie.Start) → Table (soundTask (onlyQueues (s .args .queues .now))
 table s = tasks-table (s .args .queues .now) (s .args .tasks .now) (s .pre .1)
 
 returns : tie.Need-returns
-returns c =    table-fails (table (c .before .before .before .before)) false (c .before .each-task-sound .ensures) (c .if1 .taken)
+returns c = table-fails (table (c .before .before .before .before)) false (c .before .each-task-sound .ensures) (c .if1 .taken)
 
 every-ranked-requires : tie.Need-every-ranked-requires
 every-ranked-requires c κs =
@@ -33,7 +33,7 @@ every-ranked-requires c κs =
     )
 
 returns-2 : tie.Need-returns-2
-returns-2 c =    ranks-decide (table (c .before .before .before .before .before)) false (c .before .before .each-task-sound .ensures) (c .before .if1 .left) (c .every-ranked .ensures)
+returns-2 c = ranks-decide (table (c .before .before .before .before .before)) false (c .before .before .each-task-sound .ensures) (c .before .if1 .left) (c .every-ranked .ensures)
 
 pub tasks-sound-spec : {M : Type 1} → statement M
 tasks-sound-spec = tie.close (tie.spec (search needs) returns every-ranked-requires returns-2)

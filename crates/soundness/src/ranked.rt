@@ -15,13 +15,13 @@ use records::shares::share_limit;
 use records::shares::share_of_slot;
 
 // How many messages the queue holds, or how many tasks wait in it.
-fn held(q: QueueRecord, messages: bool) -> usize
+fn held(q: QueueRecord, messages: bool) -> u16
     ensures { λ r. ⌜ (r ≡ held messages q) × (r < 256) ⌝ }
 {
     if messages {
-        return wide(q.pending);
+        return q.pending as u16;
     }
-    wide(q.waiters)
+    q.waiters as u16
 }
 
 // The first record that can be in the queue of the slot: the first buffer of its share, or the first task.
@@ -71,11 +71,11 @@ fn read_numbers(t: &[u8], stride: usize, place: usize, count: usize) -> [u16; 64
 }
 
 // The number of the position at the rank of the queue in the slot.
-fn number_at(slot: usize, rank: usize) -> u16
+fn number_at(slot: usize, rank: u16) -> u16
     requires { ⌜ (slot < 16) × (rank < 256) ⌝ }
     ensures { λ r. ⌜ r ≡ slot + 1 + 256 * rank ⌝ }
 {
-    (slot + 1 + 256 * rank) as u16
+    (slot + 1) as u16 + 256 * rank
 }
 
 fn one(b: bool) -> u16

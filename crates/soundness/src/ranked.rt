@@ -1,4 +1,4 @@
-// The ranks of messages and of waiters, for both tables alike: count records of stride bytes, each with its queue at place and its rank after it.
+// The ranks of messages and of waiters: a table of count records of stride bytes, each with its queue at place and its rank after it.
 ghost use mathlib.Core.Path.{_≡_};
 ghost use mathlib.Core.Bool.{true};
 ghost use Prim.Native.Nat.{ℕ, _+_, _*_, _≤_, _<_};
@@ -46,7 +46,7 @@ fn part_size(slot: usize, messages: bool, count: usize) -> usize
     count
 }
 
-// The position that is in the bytes at this place, as one number: its queue + 256 x its rank.
+// The position in the two bytes at this place, as one number: its queue + 256 x its rank.
 fn read_number(t: &[u8], at: usize) -> u16
     requires { ⌜ at + 1 < length (now t) ⌝ }
     ensures { λ r. ⌜ positionOf r ≡ positionIn at (now (t .entry)) ⌝ }
@@ -56,7 +56,7 @@ fn read_number(t: &[u8], at: usize) -> u16
     (queue + 256 * rank) as u16
 }
 
-// The positions of all records as numbers, side by side.
+// The positions of all records as numbers, side by side, so that a loop over records compares several at once.
 fn read_numbers(t: &[u8], stride: usize, place: usize, count: usize) -> [u16; 64]
     requires { ⌜ Shape stride place count (length (now t)) × (count ≤ 64) ⌝ }
     ensures { λ r. ⌜ positionsOf (take count r) ≡ positions place (records count stride (now (t .entry))) ⌝ }
@@ -84,7 +84,8 @@ fn one(b: bool) -> u16
     b as u16
 }
 
-// For each live queue, its messages or waiters carry the ranks below their count, each exactly once. No rank is at the count or above.
+// For each live queue, its messages or waiters carry the ranks below their count, each exactly once: queue by queue, rank by rank, over the
+// records that can be in the queue. No record has a rank at its queue's count or above, so that a queue that holds nothing has no record.
 fn each_rank_once(queues: &[u8], numbers: &[u16], messages: bool) -> bool
     requires { ⌜ (length (now queues) ≡ 256) × ((length (now numbers) ≤ 64) × ((every (λ j p. belowCount messages (decodeQueues (now queues)) p) (positionsOf (now numbers)) ≡ true)
         × ((slot : ℕ) → slot < 16 → Among slot (partStart messages slot) (partStart messages slot + partSize messages (length (now numbers)) slot) (positionsOf (now numbers))))) ⌝ }

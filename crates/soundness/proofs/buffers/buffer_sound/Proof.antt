@@ -3,7 +3,7 @@ use Prim.Native.Nat.{ℕ, _<_, _-_}
 use native.Mathlib.Omega.{arith}
 use mathlib.Core.Path.{_≡_, sym, ap, _∙_}
 use mathlib.Core.Bool.{_&&_}
-use lib.Dec.{eqb}
+use lib.Dec.{eqb, ltb}
 use lib.ListN.{drop}
 use borrow.Author.Tests.{not-true, not-false}
 use Rattle.ranks.specs.Lists.{allZero}
@@ -53,7 +53,7 @@ returns-4 c =
     let r = a .r .now in
     let lt = c .before .before .before .before .before .if2 .left in
     c .message-sound .ensures
-    ∙ ap (λ (q : Queue). isLive q && sizeAllowed q (byte 2 r) && allZero (slice 3 5 r) && allZero (drop (byte 2 r) (slice 8 120 r)))
+    ∙ ap (λ (q : Queue). isLive q && sizeAllowed q (byte 2 r) && allZero (slice 3 5 r) && allZero (drop (byte 2 r) (slice 8 120 r)) && ltb (byte 1 r) (q .pending))
     (c .before .read-queue .ensures ∙ sym (at-table decodeQueue 16 16 t (c .before .before .before .before .before .before .before .wide .result - 1) lt (freeQueue 0)))
     ∙ buffer-used (onlyQueues t) (a .b) (decodeBuffer r) (c .before .before .before .before .before .before .before .wide .result - 1) (sym (c .before .before .before .before .before .before .before .wide .ensures .0) ∙ omega arith) lt
     (sym (c .before .before .before .owns-buffer .ensures ∙ ap (λ (n : ℕ). eqb n (shareOfBuffer (a .b))) (c .before .before .before .before .share-of-slot .ensures)) ∙ not-false _ (c .before .before .if3 .left))

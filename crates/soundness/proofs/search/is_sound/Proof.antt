@@ -43,11 +43,6 @@ limits-sound-requires c κs = (c .before .before .before .before .before .pre .0
 returns-2 : tie.Need-returns-2
 returns-2 c = ends _ (c .before .limits-sound .ensures) (c .if2 .taken) (left1 (c .before .before))
 
-pool-sound-requires : tie.Need-pool-sound-requires
-pool-sound-requires c κs =
-    let s = c .before .before .before .before .before .before .before in
-    (s .pre .0, (s .pre .1 .0, sym (c .before .before .before .queues-sound .ensures) ∙ not-false _ (c .before .before .if1 .left)))
-
 returns-3 : tie.Need-returns-3
 returns-3 c = ends _ (c .before .pool-sound .ensures) (c .if3 .taken) (left2 (c .before .before))
 
@@ -63,4 +58,4 @@ returns-5 : tie.Need-returns-5
 returns-5 c = last (c .priorities-sound .ensures) (left4 (c .before))
 
 pub is-sound-spec : {M : Type 1} → statement M
-is-sound-spec = tie.close (tie.spec (search needs) returns limits-sound-requires returns-2 pool-sound-requires returns-3 (search needs) returns-4 priorities-sound-requires returns-5)
+is-sound-spec = tie.close (tie.spec (search needs) returns limits-sound-requires returns-2 (search needs) returns-3 (search needs) returns-4 priorities-sound-requires returns-5)

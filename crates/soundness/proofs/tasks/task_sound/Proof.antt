@@ -3,7 +3,7 @@ use Prim.Native.Nat.{_-_}
 use native.Mathlib.Omega.{arith}
 use mathlib.Core.Path.{sym, ap₂, _∙_}
 use mathlib.Core.Bool.{Bool, _&&_, _||_}
-use lib.Dec.{eqb}
+use lib.Dec.{eqb, ltb}
 use Rattle.ranks.specs.Lists.{allTrue}
 use Rattle.ranks.specs.Table.{byte}
 use Rattle.records.specs.Records.{Queue, freeQueue, isLive, isOpen}
@@ -11,7 +11,7 @@ use Rattle.records.specs.Bytes.{decodeQueue, decodeTask}
 use Rattle.records.proofs.Writing.{at-table}
 use Rattle.specification.specs.Sound.{taskRules}
 use Rattle.soundness.specs.Parts.{onlyQueues}
-use Rattle.soundness.proofs.Cases.{task-ready, task-is-ready, task-nowhere, task-beyond, task-waiting}
+use Rattle.soundness.proofs.Cases.{task-is-ready, task-not-ready, task-nowhere, task-beyond, task-waiting}
 use borrow.Author.Needs.{needs}
 use Rattle.soundness.proofs.tasks.task_sound.Statement.{statement}
 use Rattle.soundness.proofs.tasks.task_sound.Tie as tie
@@ -25,7 +25,7 @@ returns-2 : tie.Need-returns-2
 unfolding decodeTask
 returns-2 c =
     let a = c .before .before .before .before .before .before .args in
-    sym (c .before .before .if1 .left) ∙ c .before .before .before .ready-task .ensures ∙ task-ready (onlyQueues (a .queues .now)) (a .t) (decodeTask (a .r .now)) (c .if2 .taken)
+    task-not-ready (onlyQueues (a .queues .now)) (a .t) (decodeTask (a .r .now)) (c .if2 .taken) (sym (c .before .before .if1 .left) ∙ c .before .before .before .ready-task .ensures)
 
 returns-3 : tie.Need-returns-3
 unfolding decodeTask
@@ -49,7 +49,7 @@ returns-5 c =
     let r = a .r .now in
     let lt = c .before .before .before .before .if4 .left in
     c .waiting-task .ensures
-    ∙ ap₂ (λ (own : Bool) (q : Queue). allTrue (taskRules (decodeTask r)) && (isLive q && (own || isOpen q) && eqb (byte 4 r) 14 && eqb (byte 5 r) 0))
+    ∙ ap₂ (λ (own : Bool) (q : Queue). allTrue (taskRules (decodeTask r)) && (isLive q && (own || isOpen q) && eqb (byte 4 r) 14 && eqb (byte 5 r) 0) && ltb (byte 2 r) (q .waiters))
     (ap₂ eqb (c .before .before .share-of-slot .ensures) (c .before .share-of-task .ensures))
     (c .before .before .before .read-queue .ensures ∙ sym (at-table decodeQueue 16 16 t (c .before .before .before .before .before .before .wide .result - 1) lt (freeQueue 0)))
     ∙ task-waiting (onlyQueues t) (a .t) (decodeTask r) (c .before .before .before .before .before .before .before .before .if2 .left) (c .before .before .before .before .before .before .wide .result - 1) (sym (c .before .before .before .before .before .before .wide .ensures .0) ∙ omega arith) lt

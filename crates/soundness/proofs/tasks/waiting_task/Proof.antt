@@ -10,7 +10,7 @@ use Rattle.soundness.proofs.tasks.waiting_task.Tie as tie
 
 returns : tie.Need-returns
 unfolding taskRules decodeTask
-returns c = rw (c .before .before .before .before .before .two-zeros .ensures, c .before .before .before .before .four-zeros .ensures) (simp (all-cons, all-nil, and-true, and-assoc))
+returns c = rw (c .before .before .before .before .before .before .before .two-zeros .ensures, c .before .before .before .before .before .before .four-zeros .ensures) (simp (all-cons, all-nil, and-true, and-assoc))
 
 pub waiting-task-spec : {M : Type 1} → statement M
-waiting-task-spec = tie.close (tie.spec (search needs) (search needs) (search needs) (search needs) (search needs) returns)
+waiting-task-spec = tie.close (tie.spec (search needs) (search needs) (search needs) (search needs) (search needs) (search needs) returns)

@@ -8,7 +8,7 @@ use Rattle.calllog.specs.declared.call.Directive.the-variants.{Create, I
 use Rattle.calllog.specs.declared.call.Call.the-variants.{By, Tick}
 use Rattle.calllog.specs.declared.call.LogResult.{LogResult}
 use Rattle.calllog.specs.declared.call.LogResult.the-variants.{WellFormed, Malformed, End}
-use Rattle.calllog.specs.declared.reader.Step.{Step}
+use Rattle.calllog.specs.declared.reader.Reading.{Reading}
 
 -- ---- The fields of a record
 
@@ -165,15 +165,15 @@ unfoldable pub placeAfter : (log : List ℕ) (at : ℕ) → ℕ
 placeAfter log at = if ltb at (length log) then min (at + recordWidth) (length log) else at
 
 -- both
-abbrev pub stepAt : (log : List ℕ) (at : ℕ) → Step
-stepAt log at = record { result = readAt log at; next = placeAfter log at }
+abbrev pub readingAt : (log : List ℕ) (at : ℕ) → Reading
+readingAt log at = record { result = readAt log at; next = placeAfter log at }
 
 -- ---- Answer records
 
 -- "An answer record is 16 bytes: status, first byte of the call, 0, 0, value, mask, four zeros."
-unfoldable pub answerBytes : (status first value mask : ℕ) → List ℕ
-answerBytes status first value mask =
-    status ∷ first ∷ 0 ∷ 0 ∷ toLittleEndian 4 value ++ toLittleEndian 4 mask ++ replicate 4 0
+unfoldable pub answerBytes : (status firstByte value mask : ℕ) → List ℕ
+answerBytes status firstByte value mask =
+    status ∷ firstByte ∷ 0 ∷ 0 ∷ toLittleEndian 4 value ++ toLittleEndian 4 mask ++ replicate 4 0
 
 -- ---- For the code
 

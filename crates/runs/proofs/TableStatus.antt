@@ -26,7 +26,7 @@ use Rattle.calllog.specs.CallLog.{recordWidth, operation, caller, option, size,
 use Rattle.calllog.specs.CallLog
 use Rattle.calllog.specs.declared.call.LogResult.{LogResult}
 use Rattle.calllog.specs.declared.call.LogResult.the-variants.{WellFormed, Malformed, End}
-use Rattle.runs.specs.Replay.{directiveOf, callOf, outcomeFor, replayRecord}
+use Rattle.runs.specs.Replay.{directiveOf, callOf, outcomeFor, replayFound, replayRecord}
 
 -- ---- Bytes, and the numbers in them
 
@@ -120,7 +120,7 @@ module _ (t : Tables) {n : ℕ} (e : n ≡ firstStatus (tableRefusals t)) where
       rw (after .bytes .lengths, after .isSound) z
 
   pub status-stays : (r : List ℕ) → Slice (t .queues) → Slice (t .pool) → Slice (t .tasks) → Slice r → n ≡ firstStatus (tableRefusals (replayRecord t r .after))
-  unfolding replayRecord outcomeFor
+  unfolding replayRecord replayFound outcomeFor
   status-stays r bq bp bw s = go (readRecord r) (record-in-range r s)
     where
       go : (f : LogResult) → InRange (drop 16 r) f → n ≡ firstStatus (tableRefusals (outcomeFor t f (drop 16 r) .after))

@@ -67,7 +67,7 @@ word i n r h s =
 
 -- ---- The numbers of a call are of 32 bits, and its message is of bytes
 
-abbrev InRange : List ℕ → LogResult → Type 0
+abbrev pub InRange : List ℕ → LogResult → Type 0
 InRange m (WellFormed c) = argumentsInRange (callOf c m) ≡ true
 InRange m Malformed = Unit {0}
 InRange m End = Unit {0}
@@ -91,7 +91,7 @@ call-in-range m op caller′ option′ size′ id′ ticks′ limit′ maxSize�
     (either m (eqb op 9) _ _ (rw (c, i))
     (either m (eqb op 10) _ Malformed refl tt)))))))))
 
-record-in-range : (r : List ℕ) → Slice r → InRange (drop 16 r) (readRecord r)
+pub record-in-range : (r : List ℕ) → Slice r → InRange (drop 16 r) (readRecord r)
 unfolding readRecord CallLog.callIn
 record-in-range r s =
     either (drop 16 r) (eqb (length r) recordWidth && keepsRow (rowOf (operation of r)) r) (CallLog.callIn r) Malformed

@@ -1,21 +1,18 @@
 -- Laws of the tests and the numbers of `specs/CallLog.antt`. Assumes nothing.
-use Prim.Native.Nat.{ℕ, zero, suc, _+_, _-_, _*_, _≤_, _<_, min}
+use Prim.Native.Nat.{ℕ, zero, suc, _+_, _≤_, _<_, min}
 use native.Mathlib.Nat.{add-zero}
-use native.Mathlib.Numerals.{add-one}
 use native.Mathlib.Omega.{arith}
-use mathlib.Core.Path.{_≡_, refl, sym, ap, ap₂, _∙_}
+use mathlib.Core.Path.{_≡_, refl, sym, ap, _∙_}
 use mathlib.Core.Bool.{Bool, false, not, _&&_, _||_, and-assoc, and-true}
-use mathlib.Core.Logic.{_⊎_, inl, inr}
 use mathlib.Core.List.{List, [], _∷_, map}
 use lib.Bits.{bitAnd}
 use lib.Dec.{eqb, leb}
-use lib.ListN.{length, getD, take, drop, List·getD-map, List·getD-eq-default, drop-of-length-le, length-take, length-drop}
+use lib.ListN.{length, getD, take, drop, List·getD-map, List·getD-eq-default, length-take, length-drop}
 use lib.Seq.{drop-cons, take-all}
 use borrow.Author.Tests.{eq-eqb, ne-eqb, le-ltb, lt-ltb}
 use Rattle.ranks.specs.Lists.{if_then_else_, allTrue, allZero}
 use Rattle.ranks.specs.Table.{slice, byte}
 use Rattle.ranks.proofs.Lists.{all-cons, all-nil, zeros-cons, zeros-nil}
-use Rattle.ranks.proofs.Tests.{same?}
 use Rattle.records.specs.Bytes.{fromLittleEndian}
 use Rattle.records.proofs.ZeroBytes.{zero-number}
 use Rattle.calllog.specs.declared.call.LogResult.the-variants.{Malformed, End}

@@ -2,18 +2,18 @@
 use Prim.Native.Nat.{ℕ, suc, _+_, _*_, _-_, _≤_, _<_, min}
 use native.Mathlib.Nat.{zero-add, sub-zero}
 use native.Mathlib.Omega.{arith}
-use mathlib.Core.Path.{_≡_, refl, sym, ap, ap₂, subst, _∙_}
+use mathlib.Core.Path.{_≡_, refl, sym, ap, ap₂, _∙_}
 use mathlib.Core.Logic.{⊎-elim}
 use mathlib.Core.List.{List, [], _∷_, _++_, append-assoc, append-nil}
 use lib.ListN.{length, take, drop, length-append, length-drop, drop-of-length-le, take-append-drop}
 use lib.Seq.{take-all, take-at, drop-at, drop-drop, length-take-le}
 use borrow.Author.Tests.{lt-ltb}
-use Rattle.ranks.specs.Table.{slice, byte, records, spliced}
+use Rattle.ranks.specs.Table.{slice, records, spliced}
 use Rattle.ranks.proofs.Tests.{lt-or-ge}
 use Rattle.records.specs.Bytes.{Tables, toLittleEndian}
 use Rattle.calllog.specs.CallLog.{readRecord, readAt, placeAfter, answerBytes}
 use Rattle.calllog.specs.declared.call.LogResult.{LogResult}
-use Rattle.runs.specs.Replay.{outcomeFor, Replayed, replayFound, replayRecord, replayRecords, countOf, recordsOf, replayed, replayedAt, replayedFront}
+use Rattle.runs.specs.Replay.{Replayed, replayFound, replayRecord, replayRecords, countOf, recordsOf, replayed, replayedAt, replayedFront}
 
 -- ---- What stands at a place
 

@@ -34,7 +34,6 @@ use denote.Slice.{sliceVal, ShrSlice, slice-vals, shr-slice-tells, shr-slice-law
 use denote.Steps.{only, owned, peeks, heard, nothing}
 use denote.Enum.Laws as EL
 use denote.Struct.Laws as LL
-use denote.Struct.Rest.{own-shut}
 use denote.Triple.Statement.{Contract, Triple}
 use denote.Triple.Call.{calls-at}
 use denote.Triple.Entry.{Vals, onEntry}
@@ -122,11 +121,9 @@ module _ {M : Type 1} (𝓤 : URA M) (H : Heap 𝓤) (A : Atoms 𝓤) (W : Given
   abbrev to-reader-at : ReaderAt 𝓤 H A mem run .Ghost
   to-reader-at = (((κ, tt), (q, tt), tt, (s, (n, tt)), passed), tt)
 
-  abbrev to-current : LogReader → Val → Current 𝓤 H A mem run .Ghost
-  to-current d w = (((κ, tt), (q, tt), tt, (d, tt), (w ∷ [], tt)), tt)
-
-  abbrev to-advanced : LogReader → Val → Advanced 𝓤 H A mem run .Ghost
-  to-advanced d w = (((κ, tt), (q, tt), tt, (d, tt), (w ∷ [], tt)), tt)
+  -- `current` and `advanced` are passed the same
+  abbrev to-either : LogReader → Val → Current 𝓤 H A mem run .Ghost
+  to-either d w = (((κ, tt), (q, tt), tt, (d, tt), (w ∷ [], tt)), tt)
 
   asked : ent 𝓤 (onEntry 𝓤 H A reader-at.signature (κ, tt) (q, tt) (s, (n, tt)) passed) (ReaderAt 𝓤 H A mem run .pre to-reader-at)
   asked = qed W ((‵ (flft κ q) ⊛ ‵ ftrue) ∷ ‵ (owns (ShrSlice (named 0) κ u8 ∷ usize ∷ []) (s, (n, tt)) passed) ∷ []) ∵ join ! $ frame ! $ done !
@@ -139,11 +136,8 @@ module _ {M : Type 1} (𝓤 : URA M) (H : Heap 𝓤) (A : Atoms 𝓤) (W : Given
       -- [what log owns; what log owns; what at owns; the token]
       move ! (0 ∷ 2 ∷ []) $ fjoin ! $ move ! (2 ∷ 0 ∷ []) $ use2 W (raw (ReaderAt 𝓤 H A mem run .pre to-reader-at)) asked $ frame ! $ done !
 
-  asks-current : (d : LogReader) (w : Val) → ent 𝓤 (⋆ 𝓤 H A (‵ (OwnOf d w) ∷ (‵ (flft κ q) ⊛ ‵ ftrue) ∷ [])) (Current 𝓤 H A mem run .pre (to-current d w))
-  asks-current d w = qed W (‵ (OwnOf d w) ∷ (‵ (flft κ q) ⊛ ‵ ftrue) ∷ []) ∵ nothing ! $ move ! (1 ∷ 0 ∷ []) $ fjoin ! $ move ! (1 ∷ 0 ∷ []) $ join ! $ frame ! $ done !
-
-  asks-advanced : (d : LogReader) (w : Val) → ent 𝓤 (⋆ 𝓤 H A (‵ (OwnOf d w) ∷ (‵ (flft κ q) ⊛ ‵ ftrue) ∷ [])) (Advanced 𝓤 H A mem run .pre (to-advanced d w))
-  asks-advanced d w = asks-current d w
+  asks-either : (d : LogReader) (w : Val) → ent 𝓤 (⋆ 𝓤 H A (‵ (OwnOf d w) ∷ (‵ (flft κ q) ⊛ ‵ ftrue) ∷ [])) (Current 𝓤 H A mem run .pre (to-either d w))
+  asks-either d w = qed W (‵ (OwnOf d w) ∷ (‵ (flft κ q) ⊛ ‵ ftrue) ∷ []) ∵ nothing ! $ move ! (1 ∷ 0 ∷ []) $ fjoin ! $ move ! (1 ∷ 0 ∷ []) $ join ! $ frame ! $ done !
 
   reader-at-said : (d : LogReader) → ent 𝓤 (ensured 𝓤 H A reader-at.ended (reader-at.clauses 𝓤 H A mem run) (κ, tt) (s, (n, tt)) tt d) (fact 𝓤 (d ≡ made))
   reader-at-said d = exE 𝓤 _ (λ ws. snd∗ 𝓤 (sem 𝓤 H A (lasts reader-at.ended (κ, tt) (s, (n, tt)) ws)) (fact 𝓤 (d ≡ made)))
@@ -194,8 +188,8 @@ module _ {M : Type 1} (𝓤 : URA M) (H : Heap 𝓤) (A : Atoms 𝓤) (W : Given
         land ! (from ! (stop !)) (init ! 13 refl (typed d w isd)) $
         -- a copy of it to `current`
         assigns ! (of-opd ! (load ! (from ! (stop !)) (look ! 13 refl))) (from ! (stop !)) (init ! 7 refl (typed d w isd)) $
-        use1 W (‵ (OwnOf d w) ⊛ ‵ (OwnOf d w)) (LL.copy (T.the-type α) (T′.the-copy α) 𝓤 H A W .twice d (w ∷ [])) $ split ! $ move ! (0 ∷ 2 ∷ []) $ use2 W (raw (Current 𝓤 H A mem run .pre (to-current d w))) (asks-current d w) $
-        calls-at ! fm (Current 𝓤 H A mem run) known-current (to-current d w) (and-then ! (load ! (from ! (stop !)) (look ! 7 refl)) (no-more !)) (λ u.
+        use1 W (‵ (OwnOf d w) ⊛ ‵ (OwnOf d w)) (LL.copy (T.the-type α) (T′.the-copy α) 𝓤 H A W .twice d (w ∷ [])) $ split ! $ move ! (0 ∷ 2 ∷ []) $ use2 W (raw (Current 𝓤 H A mem run .pre (to-either d w))) (asks-either d w) $
+        calls-at ! fm (Current 𝓤 H A mem run) known-current (to-either d w) (and-then ! (load ! (from ! (stop !)) (look ! 7 refl)) (no-more !)) (λ u.
         use1 W (later (some (λ (t : LogResult). ((‵ (flft κ q) ⊛ ‵ ftrue) ⊛ ‵ (S.the-row .own t (u ∷ []))) ⊛ raw (ensured 𝓤 H A current.ended (current.clauses 𝓤 H A mem run) (κ, tt) (d, tt) tt t)))) (id⊢ 𝓤 _) $ await ! tt $ pick ! (λ t.
         split ! $ move ! (1 ∷ []) $ use1 W (raw (fact 𝓤 (t ≡ readAt (now (d .log)) (d .at)))) (current-said d t) $ heard ! (t ≡ readAt (now (d .log)) (d .at)) (λ e. split ! $ move ! (1 ∷ []) $
         -- [the result; the token; what the reader owns; what log owns; room for _8; …]
@@ -203,8 +197,8 @@ module _ {M : Type 1} (𝓤 : URA M) (H : Heap 𝓤) (A : Atoms 𝓤) (W : Given
         land ! (from ! (stop !)) (init ! 12 refl (EL.lawful S.the-type S′.the-laws 𝓤 H A W tt .typed t _ is .0)) $
         -- a copy of it to `advanced`
         assigns ! (of-opd ! (load ! (from ! (stop !)) (look ! 14 refl))) (from ! (stop !)) (init ! 6 refl (typed d w isd)) $
-        drop ! $ move ! (1 ∷ 0 ∷ []) $ use2 W (raw (Advanced 𝓤 H A mem run .pre (to-advanced d w))) (asks-advanced d w) $
-        calls-at ! fm (Advanced 𝓤 H A mem run) known-advanced (to-advanced d w) (and-then ! (load ! (from ! (stop !)) (look ! 4 refl)) (no-more !)) (λ u′.
+        drop ! $ move ! (1 ∷ 0 ∷ []) $ use2 W (raw (Advanced 𝓤 H A mem run .pre (to-either d w))) (asks-either d w) $
+        calls-at ! fm (Advanced 𝓤 H A mem run) known-advanced (to-either d w) (and-then ! (load ! (from ! (stop !)) (look ! 4 refl)) (no-more !)) (λ u′.
         use1 W (later (some (λ (r : LogReader). ((‵ (flft κ q) ⊛ ‵ ftrue) ⊛ ‵ (OwnOf r u′)) ⊛ raw (ensured 𝓤 H A advanced.ended (advanced.clauses 𝓤 H A mem run) (κ, tt) (d, tt) tt r)))) (id⊢ 𝓤 _) $ await ! tt $ pick ! (λ r.
         split ! $ move ! (1 ∷ []) $ use1 W (raw (fact 𝓤 (r ≡ on d))) (advanced-said d r) $ heard ! (r ≡ on d) (λ f. split ! $ move ! (1 ∷ []) $
         -- [what the reader moved on owns; the token; what log owns; _8; …; _0; …]

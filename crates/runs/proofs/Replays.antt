@@ -13,7 +13,7 @@ use Rattle.ranks.proofs.Tests.{lt-or-ge}
 use Rattle.records.specs.Bytes.{Tables, toLittleEndian}
 use Rattle.calllog.specs.CallLog.{readRecord, readAt, placeAfter, answerBytes}
 use Rattle.calllog.specs.declared.call.LogResult.{LogResult}
-use Rattle.runs.specs.Replay.{Replayed, replayFound, replayRecord, replayRecords, countOf, recordsOf, replayed, replayedAt, replayedFront}
+use Rattle.runs.specs.Replay.{Replayed, replayFound, replayRecord, replayRecords, countOf, recordsOf, replayed, ReplayedAt, replayedAt, replayedFront}
 
 -- ---- What stands at a place
 
@@ -114,12 +114,13 @@ module _ (t₀ : Tables) (log lent : List ℕ) where
       later : (l : List ℕ) → drop (to + length (one .answers)) l ≡ drop 16 (drop to l)
       later l = ap (λ (n : ℕ). drop (to + n) l) (length-answers t (slice at 136 log)) ∙ sym (drop-drop 16 to l)
 
-      pub one-more-replayed : (next : ℕ) (t′ : Tables) (answers′ : List ℕ) → next ≡ placeAfter log at → length answers′ ≡ length answers
-          → (record { answers = answers′; after = t′ }) ≡ replayedAt t log at answers to → ReplayedTo t₀ log lent t′ answers′ next (to + 16)
+      pub one-more-replayed : (next : ℕ) (t′ : Tables) (answers′ : List ℕ) → length answers′ ≡ length answers
+          → (record { next = next; answers = answers′; after = t′ }) ≡ replayedAt t log at answers to → ReplayedTo t₀ log lent t′ answers′ next (to + 16)
       unfolding replayedAt replayed replayRecords spliced
-      one-more-replayed next t′ answers′ n same e =
-          let written : answers′ ≡ (take to answers ++ one .answers) ++ drop (to + length (one .answers)) answers = ap (λ (x : Replayed). x .answers) e in
-          let left : t′ ≡ one .after = ap (λ (x : Replayed). x .after) e in
+      one-more-replayed next t′ answers′ same e =
+          let n : next ≡ placeAfter log at = ap (λ (x : ReplayedAt). x .next) e in
+          let written : answers′ ≡ (take to answers ++ one .answers) ++ drop (to + length (one .answers)) answers = ap (λ (x : ReplayedAt). x .answers) e in
+          let left : t′ ≡ one .after = ap (λ (x : ReplayedAt). x .after) e in
           let rest : Replayed = replayed t′ (drop next log) in
           let is : replayed t (drop at log) ≡ (record { answers = one .answers ++ rest .answers; after = rest .after }) =
           ap (replayRecords t) (records-from log at h)

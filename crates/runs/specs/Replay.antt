@@ -1,13 +1,14 @@
 -- Document 01, "The call log": a log replayed over the tables, and what is written of it.
-use Rattle.ranks.specs.Prelude.{ℕ, _+_, _*_, _/_, Bool, true, false, List, [], _∷_, _++_, length, take, drop, leb}
+use Rattle.ranks.specs.Prelude.{ℕ, _+_, _*_, _/_, _≤_, _<_, _≡_, Bool, true, false, List, [], _∷_, _++_, length, take, drop, leb}
 use Rattle.ranks.specs.Lists.{if_then_else_}
 use Rattle.ranks.specs.Table.{byte, slice, records, spliced}
 use Rattle.records.specs.Bytes.{Tables}
 use Rattle.records.specs.Status.{BAD-SHAPE}
-use Rattle.specification.specs.Answer.{Answer, Outcome, refuse}
+use Rattle.specification.specs.Answer.{Answer, Outcome, refuse, firstStatus}
 use Rattle.specification.specs.Call.{Directive, Call, create, ident, onQueue, delete, send, urgent, broadcast, receive, getNumberPending, flush, call, tick}
 use Rattle.specification.specs.Step.{step}
-use Rattle.calllog.specs.CallLog.{recordWidth, readRecord, answerBytes}
+use Rattle.manager.specs.Outcomes.{tableRefusals}
+use Rattle.calllog.specs.CallLog.{recordWidth, readRecord, placeAfter, answerBytes}
 use Rattle.calllog.specs.declared.call.Directive.{Directive as LogDirective}
 use Rattle.calllog.specs.declared.call.Directive.the-variants.{Create, Ident, Delete, Send, Urgent, Broadcast, Receive, Pending, Flush}
 use Rattle.calllog.specs.declared.call.Call.{Call as LogCall}
@@ -78,9 +79,16 @@ replayed t log = replayRecords t (recordsOf log)
 
 -- ---- Into lent bytes
 
+-- one record more: the place that the reader moves on to, the lent bytes and the tables after it
+pub record ReplayedAt : Type 0 where
+  pub next : ℕ
+  pub answers : List ℕ
+  pub after : Tables
+
 -- what stands at a place of a log, its answer record from the place `to` of the lent bytes on
-unfoldable pub replayedAt : Tables → (log : List ℕ) (at : ℕ) (lent : List ℕ) (to : ℕ) → Replayed
-replayedAt t log at lent to = let r = replayRecord t (slice at recordWidth log) in record { answers = spliced lent to (r .answers); after = r .after }
+unfoldable pub replayedAt : Tables → (log : List ℕ) (at : ℕ) (lent : List ℕ) (to : ℕ) → ReplayedAt
+replayedAt t log at lent to =
+    let r = replayRecord t (slice at recordWidth log) in record { next = placeAfter log at; answers = spliced lent to (r .answers); after = r .after }
 
 -- the answer records at the front of the lent bytes
 unfoldable pub replayedFront : Tables → (log lent : List ℕ) → Replayed
@@ -99,3 +107,15 @@ intoLent done r = record { done = done; answers = r .answers; after = r .after }
 unfoldable pub replayedInto : Tables → (log lent : List ℕ) → ReplayedInto
 replayedInto t log lent =
     if leb (countOf (length log) * 16) (length lent) then intoLent true (replayedFront t log lent) else intoLent false (record { answers = lent; after = t })
+
+-- ---- For the code
+
+-- the tests of the tables' own, 16 and 10, gave the status
+abbrev pub Tested : Tables → (status : ℕ) → Type 0
+Tested t status = status ≡ firstStatus (tableRefusals t)
+
+-- where the next record of a log is replayed: its place is not at the end, and its answer record has room
+pub record NextRecord (t : Tables) (status : ℕ) (log : List ℕ) (at : ℕ) (lent : List ℕ) (to : ℕ) : Type 0 where
+  pub inside : at < length log
+  pub room : to + 16 ≤ length lent
+  pub tested : Tested t status

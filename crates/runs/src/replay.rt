@@ -1,11 +1,9 @@
 // A whole log replayed over the tables.
 ghost use mathlib.Core.Path.{_≡_};
-ghost use Prim.Native.Nat.{_+_, _*_, _≤_, _<_};
+ghost use Prim.Native.Nat.{_*_, _≤_, _<_};
 ghost use lib.ListN.{length, drop};
-ghost use Rattle.specification.specs.Answer.{firstStatus};
-ghost use Rattle.manager.specs.Outcomes.{tables, tableRefusals};
-ghost use Rattle.calllog.specs.CallLog.{placeAfter};
-ghost use Rattle.runs.specs.Replay.{replayFound, replayedAt, countOf, replayedFront, replayedInto};
+ghost use Rattle.manager.specs.Outcomes.{tables};
+ghost use Rattle.runs.specs.Replay.{Tested, NextRecord, replayFound, replayedAt, countOf, replayedFront, replayedInto};
 use crate::answer::answer;
 use crate::answer::answer_record;
 use calllog::call::LogResult;
@@ -33,7 +31,7 @@ fn replay_record(
     part: &[u8],
     status: u8,
 ) -> [u8; 16]
-    requires { ⌜ (0 < length (now part)) × (status ≡ firstStatus (tableRefusals (tables (now queues) (now pool) (now tasks)))) ⌝ }
+    requires { ⌜ (0 < length (now part)) × Tested (tables (now queues) (now pool) (now tasks)) status ⌝ }
     ensures { λ r. ⌜ (record { answers = r; after = tables (now (queues .exit)) (now (pool .exit)) (now (tasks .exit)) })
         ≡ replayFound (tables (now (queues .entry)) (now (pool .entry)) (now (tasks .entry))) found (now (part .entry)) ⌝ }
 {
@@ -53,10 +51,9 @@ fn replay_at(
     answers: &mut [u8],
     to: usize,
 ) -> usize
-    requires { ⌜ ((at < length (now log)) × (to + 16 ≤ length (now answers))) × (status ≡ firstStatus (tableRefusals (tables (now queues) (now pool) (now tasks)))) ⌝ }
-    ensures { λ r. ⌜ (r ≡ placeAfter (now (log .entry)) at)
-        × ((record { answers = now (answers .exit); after = tables (now (queues .exit)) (now (pool .exit)) (now (tasks .exit)) })
-        ≡ replayedAt (tables (now (queues .entry)) (now (pool .entry)) (now (tasks .entry))) (now (log .entry)) at (now (answers .entry)) to) ⌝ }
+    requires { ⌜ NextRecord (tables (now queues) (now pool) (now tasks)) status (now log) at (now answers) to ⌝ }
+    ensures { λ r. ⌜ (record { next = r; answers = now (answers .exit); after = tables (now (queues .exit)) (now (pool .exit)) (now (tasks .exit)) })
+        ≡ replayedAt (tables (now (queues .entry)) (now (pool .entry)) (now (tasks .entry))) (now (log .entry)) at (now (answers .entry)) to ⌝ }
 {
     let reading = read_at(log, at);
     let found = reading.result;

@@ -8,7 +8,7 @@ use Rattle.ranks.specs.Table.{slice}
 use Rattle.specification.specs.Answer.{firstStatus}
 use Rattle.manager.specs.Outcomes.{tables, tableRefusals}
 use Rattle.manager.proofs.Outcomes.{Slice}
-use Rattle.runs.specs.Replay.{Replayed, replayedAt}
+use Rattle.runs.specs.Replay.{Tested, ReplayedAt, replayedAt}
 use Rattle.runs.proofs.Replays.{ReplayedTo, none-replayed, room-for-one, one-more-replayed, all-replayed, next-after}
 use Rattle.runs.proofs.TableStatus.{sliced, status-stays}
 use borrow.Author.Needs.{needs}
@@ -17,7 +17,7 @@ use Rattle.runs.proofs.replay.replay_all.Tie as tie
 
 -- The log is replayed up to `at`, and the tests of the tables still give the status.
 record Replaying (queues₀ pool₀ tasks₀ log lent : List ℕ) (status : ℕ) (queues pool tasks answers : List ℕ) (at to : ℕ) : Type 0 where
-  tested : status ≡ firstStatus (tableRefusals (tables queues pool tasks))
+  tested : Tested (tables queues pool tasks) status
   queue-bytes : Slice queues
   pool-bytes : Slice pool
   task-bytes : Slice tasks
@@ -76,7 +76,7 @@ room b =
     room-for-one (tables (a .queues .now) (a .pool .now) (a .tasks .now)) (a .log .now) (a .answers .now) (tables (v .queues) (v .pool) (v .tasks)) (v .answers) (v .at) (v .to) (v .inv .done) (inside b)
 
 replay-at-requires : tie.Need-replay-at-requires Inv-loop μ-loop
-replay-at-requires c κs = let b = c .before .before .before .before in ((inside b, room b), b .before .loop .inv .tested)
+replay-at-requires c κs = let b = c .before .before .before .before in record { inside = inside b; room = room b; tested = b .before .loop .inv .tested }
 
 add-to : tie.Need-add-to Inv-loop μ-loop
 add-to c =
@@ -84,10 +84,11 @@ add-to c =
     omega (arith, room b, b .before .loop .inv .done .size, entry (known (b .before)) .good)
 
 loop-less : tie.Need-loop-less Inv-loop μ-loop
+unfolding replayedAt
 loop-less c =
     let o = c .before .before .before .before .before .before .before .before in
     let b = body o in
-    omega (arith, inside b, o .replay-at .ensures .0, next-after (entry (known (b .before)) .args .log .now) (b .before .loop .at) (inside b))
+    omega (arith, inside b, ap (λ (x : ReplayedAt). x .next) (o .replay-at .ensures), next-after (entry (known (b .before)) .args .log .now) (b .before .loop .at) (inside b))
 
 loop-again : tie.Need-loop-again Inv-loop μ-loop
 unfolding replayedAt
@@ -104,7 +105,7 @@ loop-again c =
     record {
       tested =
           status-stays t (v .inv .tested) part (v .inv .queue-bytes) (v .inv .pool-bytes) (v .inv .task-bytes) bytes
-          ∙ sym (ap (λ (x : Replayed). firstStatus (tableRefusals (x .after))) (o .replay-at .ensures .1));
+          ∙ sym (ap (λ (x : ReplayedAt). firstStatus (tableRefusals (x .after))) (o .replay-at .ensures));
       queue-bytes = λ j. c .before .before .before .before .before .before .slice-known5 .given j .fits;
       pool-bytes = λ j. c .before .before .before .before .slice-known6 .given j .fits;
       task-bytes = λ j. c .before .before .slice-known7 .given j .fits;
@@ -113,7 +114,7 @@ loop-again c =
       task-length = o .replay-at .kept .1 .1 .0 ∙ v .inv .task-length;
       done =
           one-more-replayed t₀ (a .log .now) (a .answers .now) t (v .answers) (v .at) (v .to) (v .inv .done) (inside b)
-          _ _ _ (o .replay-at .ensures .0) (o .replay-at .kept .1 .1 .1 .1 .1 .1 .0) (o .replay-at .ensures .1);
+          _ _ _ (o .replay-at .kept .1 .1 .1 .1 .1 .1 .0) (o .replay-at .ensures);
     }
 
 pub replay-all-spec : {M : Type 1} → statement M

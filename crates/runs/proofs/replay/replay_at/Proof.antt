@@ -7,7 +7,7 @@ use Rattle.ranks.specs.Table.{spliced}
 use Rattle.calllog.specs.CallLog.{placeAfter}
 use Rattle.calllog.specs.declared.reader.Reading.{Reading}
 use Rattle.manager.specs.Outcomes.{tables}
-use Rattle.runs.specs.Replay.{Replayed, replayedAt}
+use Rattle.runs.specs.Replay.{Replayed, ReplayedAt, replayedAt}
 use Rattle.runs.proofs.Replays.{next-after, next-within, part-size, record-replayed}
 use borrow.Author.Needs.{needs}
 use Rattle.runs.proofs.replay.replay_at.Statement.{statement}
@@ -31,7 +31,7 @@ next-is r = ap (λ (x : Reading). x .next) (r .read-at .ensures)
 bounds : (r : tie.After-read-at) → (entry r .args .at < r .read-at .result .next) × (r .read-at .result .next ≤ length (entry r .args .log .now))
 bounds r =
     let a = entry r .args in
-    let h = entry r .pre .0 .0 in
+    let h = entry r .pre .inside in
     (omega (arith, next-is r, next-after (a .log .now) (a .at) h), omega (arith, next-is r, next-within (a .log .now) (a .at) h))
 
 sub-replay-record : tie.Need-sub-replay-record
@@ -46,7 +46,7 @@ part-replay-record-end c = omega (arith, bounds (c .before .before .before))
 replay-record-requires : tie.Need-replay-record-requires
 replay-record-requires c κs =
     let r = c .before .before .before .before in
-    (part-size (entry r .args .log .now) (entry r .args .at) (entry r .pre .0 .0) (r .read-at .result .next) (next-is r), entry r .pre .1)
+    (part-size (entry r .args .log .now) (entry r .args .at) (entry r .pre .inside) (r .read-at .result .next) (next-is r), entry r .pre .tested)
 
 returns : tie.Need-returns
 unfolding replayedAt
@@ -56,11 +56,10 @@ returns c =
     let a = entry r .args in
     let t = tables (a .queues .now) (a .pool .now) (a .tasks .now) in
     let left = o .replay-record .last in
-    let is = record-replayed (a .log .now) (a .at) (entry r .pre .0 .0) t _ _ (ap (λ (x : Reading). x .result) (r .read-at .ensures)) (next-is r) in (
-      next-is r,
-      (λ j. record { answers = c .before .before .copy-into .ensures j; after = tables (left .0) (left .1 .0) (left .1 .1 .0) })
-          ∙ ap (λ (x : Replayed). record { answers = spliced (a .answers .now) (a .to) (x .answers); after = x .after }) (o .replay-record .ensures ∙ is),
-    )
+    let is = record-replayed (a .log .now) (a .at) (entry r .pre .inside) t _ _ (ap (λ (x : Reading). x .result) (r .read-at .ensures)) (next-is r) in
+    (λ j. record { next = next-is r j; answers = c .before .before .copy-into .ensures j; after = tables (left .0) (left .1 .0) (left .1 .1 .0) })
+    ∙ ap {B = ReplayedAt} (λ (x : Replayed). record { next = placeAfter (a .log .now) (a .at); answers = spliced (a .answers .now) (a .to) (x .answers); after = x .after })
+    (o .replay-record .ensures ∙ is)
 
 pub replay-at-spec : {M : Type 1} → statement M
 replay-at-spec =

@@ -1,13 +1,14 @@
 -- Document 01, "The call log": a log replayed over the tables, and what is written of it.
-use Rattle.ranks.specs.Prelude.{ℕ, _+_, _*_, _/_, Bool, true, false, List, [], _∷_, _++_, length, take, drop, leb}
+use Rattle.ranks.specs.Prelude.{ℕ, _+_, _*_, _/_, _≤_, _<_, _≡_, Bool, true, false, List, [], _∷_, _++_, length, take, drop, leb}
 use Rattle.ranks.specs.Lists.{if_then_else_}
-use Rattle.ranks.specs.Table.{byte, records, spliced}
+use Rattle.ranks.specs.Table.{byte, slice, records, spliced}
 use Rattle.records.specs.Bytes.{Tables}
 use Rattle.records.specs.Status.{BAD-SHAPE}
-use Rattle.specification.specs.Answer.{Answer, Outcome, refuse}
+use Rattle.specification.specs.Answer.{Answer, Outcome, refuse, firstStatus}
 use Rattle.specification.specs.Call.{Directive, Call, create, ident, onQueue, delete, send, urgent, broadcast, receive, getNumberPending, flush, call, tick}
 use Rattle.specification.specs.Step.{step}
-use Rattle.calllog.specs.CallLog.{recordWidth, readRecord, answerBytes}
+use Rattle.manager.specs.Outcomes.{tableRefusals}
+use Rattle.calllog.specs.CallLog.{recordWidth, readRecord, placeAfter, answerBytes}
 use Rattle.calllog.specs.declared.call.Directive.{Directive as LogDirective}
 use Rattle.calllog.specs.declared.call.Directive.the-variants.{Create, Ident, Delete, Send, Urgent, Broadcast, Receive, Pending, Flush}
 use Rattle.calllog.specs.declared.call.Call.{Call as LogCall}
@@ -39,21 +40,21 @@ outcomeFor t (WellFormed c) message = step t (callOf c message)
 outcomeFor t Malformed message = refuse t BAD-SHAPE
 outcomeFor t End message = refuse t BAD-SHAPE
 
--- the answer record of a record with the first byte given
-abbrev pub answerRecord : Answer → (first : ℕ) → List ℕ
-answerRecord a first = answerBytes (a .status) first (a .value) (a .woken)
+-- the answer record of a call with the first byte given
+abbrev pub answerRecord : Answer → (firstByte : ℕ) → List ℕ
+answerRecord a firstByte = answerBytes (a .status) firstByte (a .value) (a .woken)
 
 -- what is written of a log, and the tables after it
 pub record Replayed : Type 0 where
   pub answers : List ℕ
   pub after : Tables
 
-abbrev pub replayedAs : Outcome Tables → (first : ℕ) → Replayed
-replayedAs o first = record { answers = answerRecord (o .answer) first; after = o .after }
+-- one record of a log, or its short last part, of which the reader says this
+unfoldable pub replayFound : Tables → LogResult → List ℕ → Replayed
+replayFound t found r = let o = outcomeFor t found (drop 16 r) in record { answers = answerRecord (o .answer) (byte 0 r); after = o .after }
 
--- one record of a log, or its short last part
 unfoldable pub replayRecord : Tables → List ℕ → Replayed
-replayRecord t r = replayedAs (outcomeFor t (readRecord r) (drop 16 r)) (byte 0 r)
+replayRecord t r = replayFound t (readRecord r) r
 
 -- ---- A whole log
 
@@ -61,9 +62,9 @@ replayRecord t r = replayedAs (outcomeFor t (readRecord r) (drop 16 r)) (byte 0 
 unfoldable pub replayRecords : Tables → List (List ℕ) → Replayed
 replayRecords t [] = record { answers = []; after = t }
 replayRecords t (r ∷ rs) =
-    let first = replayRecord t r in
-    let rest = replayRecords (first .after) rs in
-    record { answers = first .answers ++ rest .answers; after = rest .after }
+    let one = replayRecord t r in
+    let rest = replayRecords (one .after) rs in
+    record { answers = one .answers ++ rest .answers; after = rest .after }
 
 -- how many records a log of `n` bytes has, a short last part counted
 unfoldable pub countOf : ℕ → ℕ
@@ -77,6 +78,17 @@ unfoldable pub replayed : Tables → (log : List ℕ) → Replayed
 replayed t log = replayRecords t (recordsOf log)
 
 -- ---- Into lent bytes
+
+-- one record more: the place that the reader moves on to, the lent bytes and the tables after it
+pub record ReplayedAt : Type 0 where
+  pub next : ℕ
+  pub answers : List ℕ
+  pub after : Tables
+
+-- what stands at a place of a log, its answer record from the place `to` of the lent bytes on
+unfoldable pub replayedAt : Tables → (log : List ℕ) (at : ℕ) (lent : List ℕ) (to : ℕ) → ReplayedAt
+replayedAt t log at lent to =
+    let r = replayRecord t (slice at recordWidth log) in record { next = placeAfter log at; answers = spliced lent to (r .answers); after = r .after }
 
 -- the answer records at the front of the lent bytes
 unfoldable pub replayedFront : Tables → (log lent : List ℕ) → Replayed
@@ -95,3 +107,15 @@ intoLent done r = record { done = done; answers = r .answers; after = r .after }
 unfoldable pub replayedInto : Tables → (log lent : List ℕ) → ReplayedInto
 replayedInto t log lent =
     if leb (countOf (length log) * 16) (length lent) then intoLent true (replayedFront t log lent) else intoLent false (record { answers = lent; after = t })
+
+-- ---- For the code
+
+-- the tests of the tables' own, 16 and 10, gave the status
+abbrev pub Tested : Tables → (status : ℕ) → Type 0
+Tested t status = status ≡ firstStatus (tableRefusals t)
+
+-- where the next record of a log is replayed: its place is not at the end, and its answer record has room
+pub record NextRecord (t : Tables) (status : ℕ) (log : List ℕ) (at : ℕ) (lent : List ℕ) (to : ℕ) : Type 0 where
+  pub inside : at < length log
+  pub room : to + 16 ≤ length lent
+  pub tested : Tested t status

@@ -10,22 +10,31 @@ use borrow.Author.Needs.{needs}
 use Rattle.runs.proofs.replay.replay.Statement.{statement}
 use Rattle.runs.proofs.replay.replay.Tie as tie
 
+-- the function's entry, from where the records are counted
+abbrev entry : tie.After-record-count → tie.Start
+entry n = n .before .before .before .before .before .before
+
+-- where the lent bytes have room
+room : (e : tie.Else1) → countOf (length (entry (e .before) .args .log .now)) * 16 ≤ length (entry (e .before) .args .answers .now)
+room e = omega (arith, e .before .record-count .ensures, e .if1 .left)
+
 returns : tie.Need-returns
 unfolding replayedInto
 returns c =
-    let a = c .before .before .before .before .before .before .before .args in
+    let a = entry (c .before) .args in
     let no-room : length (a .answers .now) < countOf (length (a .log .now)) * 16 = omega (arith, c .before .record-count .ensures, c .if1 .taken) in
     rw (lt-leb (countOf (length (a .log .now)) * 16) (length (a .answers .now)) no-room)
 
 replay-all-requires : tie.Need-replay-all-requires
-replay-all-requires c κs = omega (arith, c .before .before .before .before .before .record-count .ensures, c .before .before .before .before .if1 .left)
+replay-all-requires c κs = room (c .before .before .before .before)
 
 returns-2 : tie.Need-returns-2
 unfolding replayedInto
 returns-2 c =
-    let a = c .before .before .before .before .before .before .before .before .before .before .before .before .before .before .before .before .before .before .before .before .args in
-    let room : countOf (length (a .log .now)) * 16 ≤ length (a .answers .now) = omega (arith, c .before .before .before .before .before .before .before .before .before .before .before .before .before .before .record-count .ensures, c .before .before .before .before .before .before .before .before .before .before .before .before .before .if1 .left) in
-    ap (λ (r : Replayed). intoLent true r) (c .before .before .before .before .before .before .before .before .replay-all .ensures) ∙ rw (le-leb (countOf (length (a .log .now)) * 16) (length (a .answers .now)) room)
+    let r = c .before .before .before .before .before .before .before .before in
+    let e = r .before .before .before .before .before in
+    let a = entry (e .before) .args in
+    ap (λ (x : Replayed). intoLent true x) (r .replay-all .ensures) ∙ rw (le-leb (countOf (length (a .log .now)) * 16) (length (a .answers .now)) (room e))
 
 pub replay-spec : {M : Type 1} → statement M
 replay-spec = tie.close (tie.spec (search needs) returns replay-all-requires (search needs) (search needs) (search needs) (search needs) returns-2)

@@ -4,6 +4,7 @@ ghost use Rattle.logio.specs.AfterLog.{AfterLog, AfterSomeLog};
 use crate::block::ANSWERS;
 use crate::block::BLOCK;
 use crate::block::replay_block;
+use crate::reading::Input;
 use libc::STDIN_FILENO;
 use libc::STDOUT_FILENO;
 
@@ -33,7 +34,14 @@ fn turn(queues: &mut [u8], pool: &mut [u8], tasks: &mut [u8], answering: bool) -
 {
     let mut log = [0u8; BLOCK];
     let mut answers = [0u8; ANSWERS];
-    let b = replay_block(STDIN_FILENO, queues, pool, tasks, &mut log, &mut answers);
+    let b = replay_block(
+        Input { fd: STDIN_FILENO },
+        queues,
+        pool,
+        tasks,
+        &mut log,
+        &mut answers,
+    );
     let end = b.end;
     let done = write_answers(b.failed, answering, &answers[..end]);
     Turned { n: b.n, done }

@@ -15,7 +15,7 @@ mul-end : tie.Need-mul-end
 mul-end c =
     let f = c .before .before .before .fill in
     let s = c .before .before .before .before .before .before .before .before .before .before in
-    let fewer : countOf (f .result .n) ≤ countOf (length (s .args .log .now)) = no-more (f .ensures) in
+    let fewer : countOf (f .result .n) ≤ countOf (length (s .args .log .now)) = no-more (f .ensures .1) in
     omega (arith, s .pre, c .record-count .ensures)
 
 slice-aggregate-replay : tie.Need-slice-aggregate-replay
@@ -29,10 +29,10 @@ returns c =
     let s = c .before .before .before .before .before .before .before .before .before .before .before .before .before .before .before .before .before .before .before .before .before .before .before .before in
     let k = c .before .before .before .before .before .before .before .before .before .before .before .before .before .before .record-count in
     let size : length (take (f .result .n) (f .last .1 .0)) ≡ f .result .n = length-take-le (f .result .n) (f .last .1 .0) (omega arith) in
-    let fewer : countOf (f .result .n) ≤ countOf (length (s .args .log .now)) = no-more (f .ensures) in
+    let fewer : countOf (f .result .n) ≤ countOf (length (s .args .log .now)) = no-more (f .ensures .1) in
     let room : countOf (f .result .n) * 16 ≤ length (s .args .answers .now) = omega (arith, s .pre) in (
-      (f .ensures, (ap (λ (m : ℕ). m * 16) (k .ensures), omega (arith, k .ensures))),
-      replayed-all (tables (s .args .queues .now) (s .args .pool .now) (s .args .tasks .now)) (take (f .result .n) (f .last .1 .0)) (s .args .answers .now) (c .before .before .before .before .before .before .before .before .replay .ensures) (rw size room),
+      (f .ensures .1, (ap (λ (m : ℕ). m * 16) (k .ensures), omega (arith, k .ensures))),
+      (f .ensures .0, replayed-all (tables (s .args .queues .now) (s .args .pool .now) (s .args .tasks .now)) (take (f .result .n) (f .last .1 .0)) (s .args .answers .now) (c .before .before .before .before .before .before .before .before .replay .ensures) (rw size room)),
     )
 
 pub replay-block-spec : {M : Type 1} → statement M

@@ -22,7 +22,7 @@ returns : tie.Need-returns
 returns c =
     let a = c .before .before .before .before .before .before .before .before .before .before .before .before .before .before .before .before .before .before .before in
     let b = c .before .before .before .before .before .before .before .before .before .before .replay-block in
-    after-block (tables (a .args .queues .now) (a .args .pool .now) (a .args .tasks .now)) (b .result .n) (b .last .1 .1 .1 .1 .0) (replicate 7696 0) (omega (arith, b .ensures .0)) (b .ensures .1)
+    after-block (tables (a .args .queues .now) (a .args .pool .now) (a .args .tasks .now)) (b .result .n) (b .last .1 .1 .1 .1 .0) (replicate 7696 0) (omega (arith, b .ensures .0)) (b .ensures .1 .1)
 
 pub turn-spec : {M : Type 1} → statement M
 turn-spec = tie.close (tie.spec (search needs) (search needs) replay-block-requires (search needs) slice-aggregate-write-answers (search needs) (search needs) (search needs) (search needs) returns)

@@ -1,4 +1,4 @@
 -- What the contracts of this crate cite.
 pub mod Agreeing
-pub mod AfterLog
 pub mod Reading
+pub mod Turns

@@ -1,13 +1,21 @@
 // Bytes read into a buffer until it is full.
 ghost use mathlib.Core.Path.{_≡_};
 ghost use Prim.Native.Nat.{_-_, _≤_};
+ghost use lib.IntN.{pos};
 ghost use lib.ListN.{length};
 ghost use Rattle.libc.specs.Io.{Moved};
 ghost use Rattle.logio.specs.Reading.{ReadBehind, afterRead, ReadMore, Fills};
+use libc::STDIN_FILENO;
 
 // A descriptor that is read.
 pub struct Input {
     pub fd: i32,
+}
+
+pub fn standard_input() -> Input
+    ensures { λ r. ⌜ r .fd ≡ pos 0 ⌝ }
+{
+    Input { fd: STDIN_FILENO }
 }
 
 // What a read comes to: so many bytes stand at the buffer's start, the input has ended, or the read failed.

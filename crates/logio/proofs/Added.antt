@@ -8,6 +8,7 @@ use lib.Dec.{T}
 use lib.IntN.{ℤ, pos, negsuc}
 use lib.ListN.{length}
 use Rattle.libc.specs.Io.{Moved}
+use Rattle.logio.specs.declared.reading.Input.{Input}
 use Rattle.logio.specs.declared.reading.Read.{Read}
 use Rattle.logio.specs.declared.reading.Read.the-variants.{More, Ended, Failed}
 use Rattle.logio.specs.Reading.{afterRead, ReadMore}
@@ -29,5 +30,5 @@ added n m size (pos (suc k)) h moved e = let is : m ≡ n + suc k = ap bytesOf e
 added n m size (negsuc k) h moved e = absurd (subst T (ap isMore e) tt)
 
 -- a read that goes on adds bytes, and no more than there is room for
-pub room-left : {n m : ℕ} {old new : List ℕ} → n ≤ length old → ReadMore n old (More m) new → (n < m) × (m ≤ length old)
+pub room-left : {from : Input} {n m : ℕ} {old new : List ℕ} → n ≤ length old → ReadMore from n old (More m) new → (n < m) × (m ≤ length old)
 room-left {n = n} {m = m} {old = old} h r = added n m (length old) (r .got) h (r .behind .moved) (r .comes)

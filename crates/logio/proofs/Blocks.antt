@@ -13,11 +13,12 @@ use Rattle.ranks.specs.Lists.{if_then_else_}
 use Rattle.ranks.specs.Table.{records}
 use Rattle.records.specs.Bytes.{Tables}
 use Rattle.runs.specs.Replay.{Replayed, replayRecord, replayRecords, countOf, recordsOf, replayed}
+use Rattle.logio.specs.declared.reading.Input.{Input}
 use Rattle.logio.specs.declared.reading.Filled.{Filled}
 use Rattle.logio.specs.declared.input.Ending.{Ending}
 use Rattle.logio.specs.declared.input.Ending.the-variants.{GoesOn, Complete}
-use Rattle.logio.specs.Reading.{Fills, full, ended, failed, more}
-use Rattle.logio.specs.Turns.{blockBytes, afterBlock, goesOn, Turn, Turns, last, spent, logOf}
+use Rattle.logio.specs.Reading.{standardInput, Fills, full, ended, failed, more}
+use Rattle.logio.specs.Turns.{blockBytes, afterBlock, goesOn, Finished, Turn, Turns, last, spent, logOf}
 use Rattle.logio.specs.Turns as Turns
 use Rattle.logio.proofs.Added.{room-left}
 
@@ -55,7 +56,7 @@ block-then t a b e =
     sym (ap (λ (rs : List (List ℕ)). replayRecords t rs .after) (records-then 481 a b e) ∙ then-records t (recordsOf a) (recordsOf b))
 
 -- what the reads put into a buffer has room there
-filled-within : {f : Filled} {new old : List ℕ} {n : ℕ} → n ≤ length old → Fills f new n old → (f .n ≤ length new) × (length new ≡ length old)
+filled-within : {from : Input} {f : Filled} {new old : List ℕ} {n : ℕ} → n ≤ length old → Fills from f new n old → (f .n ≤ length new) × (length new ≡ length old)
 filled-within {new = new} {n = n} h (full e is) = (subst (λ (m : ℕ). m ≤ length new) (sym (ap (λ (f : Filled). f .n) is)) h, refl)
 filled-within {new = new} {n = n} h (ended r is) =
     let kept : n ≤ length new = omega (arith, r .behind .size) in
@@ -68,8 +69,8 @@ filled-within h (more {m = m} {next = next} r rest) =
     (both .0, both .1 ∙ r .behind .size)
 
 -- where the log goes on, the block is full
-went-on : (n : ℕ) (failed written : Bool) → goesOn (afterBlock n failed written) ≡ true → blockBytes ≤ n
-went-on n true written e = absurd (subst T (sym e) tt)
+went-on : (n : ℕ) (failed done : Bool) → goesOn (afterBlock n failed done) ≡ true → blockBytes ≤ n
+went-on n true done e = absurd (subst T (sym e) tt)
 went-on n false false e = absurd (subst T (sym e) tt)
 went-on n false true e = ltb-false n blockBytes (cases (ltb n blockBytes) e)
   where
@@ -80,7 +81,7 @@ went-on n false true e = ltb-false n blockBytes (cases (ltb n blockBytes) e)
 full-block : {answering : Bool} {start left : Tables} {e : Ending} (t : Turn answering start e left) → goesOn e ≡ true → length (take (t .filled .n) (t .block)) ≡ blockBytes
 full-block t e =
     let within = filled-within zero-le (t .fills) in
-    let all = went-on (t .filled .n) (t .filled .failed) (t .finished .written) (ap goesOn (sym (t .finished .comes)) ∙ e) in
+    let all = went-on (t .filled .n) (t .filled .failed) (t .finished .done) (ap goesOn (sym (t .finished .comes)) ∙ e) in
     length-take-le (t .filled .n) (t .block) (within .0) ∙ omega (arith, within .0, within .1, all, t .size)
 
 -- before the first block
@@ -96,3 +97,18 @@ after-turns (last t e) = t .after
 after-turns {start = start} (Turns.more c t e rest) =
     after-turns rest ∙ ap (λ (s : Tables). replayed s (logOf rest) .after) (t .after) ∙ block-then start (take (t .filled .n) (t .block)) (logOf rest) (full-block t e)
 after-turns {left = left} (spent c e) = none-yet left
+
+-- a turn, by what was read and written
+pub one-turn : {answering : Bool} {start left : Tables} {ending : Ending} {from : Input} {bytes : List ℕ} (lent block : List ℕ) (filled : Filled) → length lent ≡ blockBytes
+    → from ≡ standardInput → Fills from filled block 0 lent → bytes ≡ replayed start (take (filled .n) block) .answers → Finished answering (filled .n) (filled .failed) bytes ending
+    → left ≡ replayed start (take (filled .n) block) .after → Turn answering start ending left
+one-turn {answering = answering} {ending = ending} lent block filled size e fills is finished after =
+    record {
+      lent = lent;
+      block = block;
+      filled = filled;
+      size = size;
+      fills = subst (λ (i : Input). Fills i filled block 0 lent) e fills;
+      finished = subst (λ (l : List ℕ). Finished answering (filled .n) (filled .failed) l ending) is finished;
+      after = after;
+    }

@@ -2,3 +2,4 @@
 pub mod Agreeing
 pub mod Reading
 pub mod Turns
+pub mod Writing

@@ -8,15 +8,16 @@ use Rattle.runs.specs.Replay.{replayed}
 use Rattle.logio.specs.declared.reading.Filled.{Filled}
 use Rattle.logio.specs.declared.input.Ending.{Ending}
 use Rattle.logio.specs.declared.input.Ending.the-variants.{GoesOn, Complete, NotRead, NotWritten}
-use Rattle.logio.specs.Reading.{Fills}
+use Rattle.logio.specs.Reading.{standardInput, Fills}
+use Rattle.logio.specs.Writing.{standardOutput, WritesAnswers}
 
 -- a block has whole records
 abbrev pub blockBytes : ℕ
 blockBytes = 481 * recordWidth
 
 -- After `n` bytes of a block: a read failed, or a write, or the log was shorter than the block, or it may go on.
-abbrev pub afterBlock : (n : ℕ) (failed written : Bool) → Ending
-afterBlock n failed written = if failed then NotRead else (if written then (if ltb n blockBytes then Complete else GoesOn) else NotWritten)
+abbrev pub afterBlock : (n : ℕ) (failed done : Bool) → Ending
+afterBlock n failed done = if failed then NotRead else (if done then (if ltb n blockBytes then Complete else GoesOn) else NotWritten)
 
 abbrev pub goesOn : Ending → Bool
 goesOn GoesOn = true
@@ -24,26 +25,20 @@ goesOn Complete = false
 goesOn NotRead = false
 goesOn NotWritten = false
 
--- bytes that are the answer records of a log
-pub record AnswerRecords (bytes : List ℕ) : Type 0 where
-  pub start : Tables
-  pub log : List ℕ
-  pub are : bytes ≡ replayed start log .answers
+-- What becomes of a log once `bytes`, the answers of `n` bytes of a block, were written to standard output.
+pub record Finished (answering : Bool) (n : ℕ) (failed : Bool) (bytes : List ℕ) (ending : Ending) : Type 0 where
+  pub done : Bool
+  pub writes : WritesAnswers standardOutput answering bytes done
+  pub comes : ending ≡ afterBlock n failed done
 
--- What becomes of a log once the answers of `n` bytes of a block are written. Answers that nobody asks for count as written.
-pub record Finished (answering : Bool) (n : ℕ) (failed : Bool) (ending : Ending) : Type 0 where
-  pub written : Bool
-  pub unasked : answering ≡ false → written ≡ true
-  pub comes : ending ≡ afterBlock n failed written
-
--- One turn: reads fill a block, what they put there is replayed, and its answers are written.
+-- One turn: reads from standard input fill a block, what they put there is replayed, and its answers are written.
 pub record Turn (answering : Bool) (start : Tables) (ending : Ending) (left : Tables) : Type 0 where
   pub lent : List ℕ
   pub block : List ℕ
   pub filled : Filled
   pub size : length lent ≡ blockBytes
-  pub fills : Fills filled block 0 lent
-  pub finished : Finished answering (filled .n) (filled .failed) ending
+  pub fills : Fills standardInput filled block 0 lent
+  pub finished : Finished answering (filled .n) (filled .failed) (replayed start (take (filled .n) block) .answers) ending
   pub after : left ≡ replayed start (take (filled .n) block) .after
 
 -- At most `count` turns: each but the last says that the log goes on, and the last does not, or it is the last of them all.

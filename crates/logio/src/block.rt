@@ -34,7 +34,7 @@ pub fn replay_block(
 ) -> BlockReplayed
     requires { ⌜ countOf (length (now log)) * 16 ≤ length (now answers) ⌝ }
     ensures { λ r. ⌜ ((r .n ≤ length (now (log .entry))) × ((r .end ≡ countOf (r .n) * 16) × (r .end ≤ length (now (answers .entry)))))
-        × (Fills (record { n = r .n; failed = r .failed }) (now (log .exit)) 0 (now (log .entry))
+        × (Fills from (record { n = r .n; failed = r .failed }) (now (log .exit)) 0 (now (log .entry))
         × ((record { answers = now (answers .exit); after = tables (now (queues .exit)) (now (pool .exit)) (now (tasks .exit)) })
         ≡ replayedFront (tables (now (queues .entry)) (now (pool .entry)) (now (tasks .entry))) (take (r .n) (now (log .exit))) (now (answers .entry)))) ⌝ }
 {

@@ -3,7 +3,7 @@ ghost use mathlib.Core.Path.{_≡_};
 ghost use Prim.Native.Nat.{_≤_};
 ghost use lib.ListN.{length, take};
 ghost use Rattle.manager.specs.Outcomes.{tables};
-ghost use Rattle.logio.specs.Turns.{afterBlock, AnswerRecords, Finished, Turn, ReplayedInTurns};
+ghost use Rattle.logio.specs.Turns.{afterBlock, Finished, Turn, ReplayedInTurns};
 ghost use Rattle.logio.specs.Turns.{goesOn as Turns·goesOn};
 use crate::block::ANSWERS;
 use crate::block::BLOCK;
@@ -21,14 +21,14 @@ pub enum Ending {
     NotWritten, // answers could not be written
 }
 
-// What became of a log after n bytes of a block.
-fn after_block(n: usize, failed: bool, written: bool) -> Ending
-    ensures { λ r. ⌜ r ≡ afterBlock n failed written ⌝ }
+// What became of a log after n bytes of a block, whose answers are written if all is done.
+fn after_block(n: usize, failed: bool, done: bool) -> Ending
+    ensures { λ r. ⌜ r ≡ afterBlock n failed done ⌝ }
 {
     if failed {
         return Ending::NotRead;
     }
-    if !written {
+    if !done {
         return Ending::NotWritten;
     }
     if n < BLOCK {
@@ -50,12 +50,13 @@ fn goes_on(e: Ending) -> bool
 
 // What follows a block: its answers are written, where they are asked for. After a failed read there are none.
 fn finish(b: BlockReplayed, answering: bool, answers: &[u8]) -> Ending
-    requires { ⌜ (b .end ≤ length (now answers)) × AnswerRecords (take (b .end) (now answers)) ⌝ }
-    ensures { λ r. ⌜ Finished answering (b .n) (b .failed) r ⌝ }
+    requires { ⌜ b .end ≤ length (now answers) ⌝ }
+    ensures { λ r. ⌜ Finished answering (b .n) (b .failed) (take (b .end) (now (answers .entry))) r ⌝ }
 {
     let end = b.end;
-    let written = write_answers(standard_output(), answering, &answers[..end]);
-    after_block(b.n, b.failed, written)
+    let to = standard_output();
+    let done = write_answers(to, answering, &answers[..end]);
+    after_block(b.n, b.failed, done)
 }
 
 // Reads a block, replays it and writes its answers.

@@ -1,10 +1,9 @@
 // Bytes read into a buffer until it is full.
 ghost use mathlib.Core.Path.{_≡_};
 ghost use Prim.Native.Nat.{_-_, _≤_};
-ghost use lib.IntN.{pos};
 ghost use lib.ListN.{length};
 ghost use Rattle.libc.specs.Io.{Moved};
-ghost use Rattle.logio.specs.Reading.{ReadBehind, afterRead, ReadMore, Fills};
+ghost use Rattle.logio.specs.Reading.{standardInput, ReadBehind, afterRead, ReadMore, Fills};
 use libc::STDIN_FILENO;
 
 // A descriptor that is read.
@@ -13,7 +12,7 @@ pub struct Input {
 }
 
 pub fn standard_input() -> Input
-    ensures { λ r. ⌜ r .fd ≡ pos 0 ⌝ }
+    ensures { λ r. ⌜ r ≡ standardInput ⌝ }
 {
     Input { fd: STDIN_FILENO }
 }
@@ -42,7 +41,7 @@ fn after_read(n: usize, got: isize, length: usize) -> Read
 // One read behind the first n bytes of the buffer. The system's answer.
 fn read_behind(from: Input, n: usize, buffer: &mut [u8]) -> isize
     requires { ⌜ n ≤ length (now buffer) ⌝ }
-    ensures { λ r. ⌜ ReadBehind n (now (buffer .entry)) r (now (buffer .exit)) ⌝ }
+    ensures { λ r. ⌜ ReadBehind from n (now (buffer .entry)) r (now (buffer .exit)) ⌝ }
 {
     libc::read(from.fd, &mut buffer[n..])
 }
@@ -50,7 +49,7 @@ fn read_behind(from: Input, n: usize, buffer: &mut [u8]) -> isize
 // Reads once more. What the read comes to.
 fn read_more(from: Input, n: usize, buffer: &mut [u8]) -> Read
     requires { ⌜ n ≤ length (now buffer) ⌝ }
-    ensures { λ r. ⌜ ReadMore n (now (buffer .entry)) r (now (buffer .exit)) ⌝ }
+    ensures { λ r. ⌜ ReadMore from n (now (buffer .entry)) r (now (buffer .exit)) ⌝ }
 {
     let got = read_behind(from, n, buffer);
     after_read(n, got, buffer.len())
@@ -64,7 +63,7 @@ pub struct Filled {
 
 // Reads until the buffer is full, the input ends or a read fails: a pipe hands out any number of bytes at a time.
 pub fn fill(from: Input, buffer: &mut [u8]) -> Filled
-    ensures { λ r. ⌜ Fills r (now (buffer .exit)) 0 (now (buffer .entry)) × (r .n ≤ length (now (buffer .entry))) ⌝ }
+    ensures { λ r. ⌜ Fills from r (now (buffer .exit)) 0 (now (buffer .entry)) × (r .n ≤ length (now (buffer .entry))) ⌝ }
 {
     let mut n = 0;
     while n < buffer.len() {

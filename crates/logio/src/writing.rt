@@ -1,8 +1,6 @@
-// Answers written to a descriptor.
-ghost use mathlib.Core.Bool.{true, false};
+// Bytes written to a descriptor.
 ghost use mathlib.Core.Path.{_≡_};
-ghost use lib.IntN.{pos};
-ghost use Rattle.logio.specs.Turns.{AnswerRecords};
+ghost use Rattle.logio.specs.Writing.{standardOutput, Writes, WritesAnswers};
 use libc::STDOUT_FILENO;
 
 // A descriptor that is written.
@@ -11,18 +9,24 @@ pub struct Output {
 }
 
 pub fn standard_output() -> Output
-    ensures { λ r. ⌜ r .fd ≡ pos 1 ⌝ }
+    ensures { λ r. ⌜ r ≡ standardOutput ⌝ }
 {
     Output { fd: STDOUT_FILENO }
 }
 
-// Writes answer records, where they are asked for. Whether all that is asked for was written.
+// Writes all of the bytes. Whether it was done.
+pub fn write(to: Output, bytes: &[u8]) -> bool
+    ensures { λ r. ⌜ Writes to (now (bytes .entry)) r ⌝ }
+{
+    io::write_all(to.fd, bytes)
+}
+
+// Writes answer records, where they are asked for. Whether all that was asked for is done.
 pub fn write_answers(to: Output, answering: bool, answers: &[u8]) -> bool
-    requires { ⌜ AnswerRecords (now answers) ⌝ }
-    ensures { λ r. ⌜ (answering ≡ false → r ≡ true) ⌝ }
+    ensures { λ r. ⌜ WritesAnswers to answering (now (answers .entry)) r ⌝ }
 {
     if answering {
-        return io::write_all(to.fd, answers);
+        return write(to, answers);
     }
     true
 }

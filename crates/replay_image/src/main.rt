@@ -4,13 +4,12 @@ use logio::input::Ending;
 use logio::input::replay_input;
 use logio::input::tell;
 use logio::writing::standard_output;
+use logio::writing::write;
 
 // Writes the image. What became of it.
 fn write_image(queues: &[u8], pool: &[u8], tasks: &[u8]) -> Ending {
     let to = standard_output();
-    let written = io::write_all(to.fd, queues)
-        && io::write_all(to.fd, pool)
-        && io::write_all(to.fd, tasks);
+    let written = write(to, queues) && write(to, pool) && write(to, tasks);
     if written {
         Ending::Complete
     } else {

@@ -2,7 +2,7 @@
 use borrow.Author.Needs.{needs}
 use native.Mathlib.Omega.{arith}
 use Prim.Native.Nat.{ℕ, _≤_, _-_}
-use mathlib.Core.Path.{_≡_, refl, sym, subst, _∙_}
+use mathlib.Core.Path.{_≡_, refl, subst}
 use mathlib.Core.List.{List}
 use lib.ListN.{length}
 use Rattle.logio.specs.declared.reading.Filled.{Filled}
@@ -16,7 +16,7 @@ use Rattle.logio.proofs.reading.fill.Tie as tie
 -- what the reads to come leave is what all of them leave
 abbrev Inv-loop : tie.InvT-loop
 Inv-loop from buffer₀ n₀ buffer n =
-    (n ≤ length buffer) × ((length buffer ≡ length buffer₀) × ((f : Filled) (new : List ℕ) → Fills f new n buffer → Fills f new 0 buffer₀))
+    (n ≤ length buffer) × ((length buffer ≡ length buffer₀) × ((f : Filled) (new : List ℕ) → Fills from f new n buffer → Fills from f new 0 buffer₀))
 
 abbrev μ-loop : tie.MeasureT-loop
 μ-loop from buffer₀ n₀ buffer n = length buffer - n
@@ -24,38 +24,42 @@ abbrev μ-loop : tie.MeasureT-loop
 loop-holds : tie.Need-loop-holds Inv-loop μ-loop
 loop-holds c = (omega arith, (refl, λ f new h. h))
 
--- a turn whose read goes on
-went-on : (c : tie.After-read Inv-loop μ-loop) → (let v = c .before .before .before .before .before .before .before .loop in ReadMore (v .n) (v .buffer) (More (c .read .given .0 .0)) (c .before .before .before .before .read-more .last .1 .1 .0))
-went-on c =
-    let v = c .before .before .before .before .before .before .before .loop in
-    let r = c .before .before .before .before .read-more in
-    subst (λ (x : Read). ReadMore (v .n) (v .buffer) x (r .last .1 .1 .0)) (c .read .given .1) (r .ensures)
+-- what the read of a turn came to
+abbrev Came : tie.After-read-more Inv-loop μ-loop → Read → Type 0
+Came c x =
+    let v = c .before .before .before .loop in
+    ReadMore (c .before .before .before .before .before .args .from) (v .n) (v .buffer) x (c .read-more .last .1 .1 .0)
+
+came : (c : tie.After-read-more Inv-loop μ-loop) {x : Read} → c .read-more .result ≡ x → Came c x
+came c e = subst (Came c) e (c .read-more .ensures)
 
 loop-less : tie.Need-loop-less Inv-loop μ-loop
 loop-less c =
-    let v = c .before .before .before .before .before .before .before .before .loop in
-    let w = went-on (c .before) in
+    let r = c .before .before .before .before .before in
+    let v = r .before .before .before .loop in
+    let w = came r (c .before .read .given .1) in
     let b = room-left (v .inv .0) w in
     omega (arith, b .0, b .1, w .behind .size)
 
 loop-again : tie.Need-loop-again Inv-loop μ-loop
 loop-again c =
-    let v = c .before .before .before .before .before .before .before .before .loop in
-    let w = went-on (c .before) in
+    let r = c .before .before .before .before .before in
+    let v = r .before .before .before .loop in
+    let w = came r (c .before .read .given .1) in
     let b = room-left (v .inv .0) w in
     (omega (arith, b .1, w .behind .size), (omega (arith, w .behind .size), λ f new h. v .inv .1 .1 f new (more w h)))
 
 returns : tie.Need-returns Inv-loop μ-loop
 returns c =
-    let v = c .before .before .before .before .before .before .before .loop in
-    let r = c .before .before .before .before .read-more in
-    (v .inv .1 .1 _ _ (ended (subst (λ (x : Read). ReadMore (v .n) (v .buffer) x (r .last .1 .1 .0)) (c .enum-told .given .1) (r .ensures)) refl), omega arith)
+    let r = c .before .before .before .before in
+    let v = r .before .before .before .loop in
+    (v .inv .1 .1 _ _ (ended (came r (c .enum-told .given .1)) refl), omega arith)
 
 returns-2 : tie.Need-returns-2 Inv-loop μ-loop
 returns-2 c =
-    let v = c .before .before .before .before .before .before .before .loop in
-    let r = c .before .before .before .before .read-more in
-    (v .inv .1 .1 _ _ (failed (subst (λ (x : Read). ReadMore (v .n) (v .buffer) x (r .last .1 .1 .0)) (c .enum-told2 .given .1) (r .ensures)) refl), omega arith)
+    let r = c .before .before .before .before in
+    let v = r .before .before .before .loop in
+    (v .inv .1 .1 _ _ (failed (came r (c .enum-told2 .given .1)) refl), omega arith)
 
 returns-3 : tie.Need-returns-3 Inv-loop μ-loop
 returns-3 c =

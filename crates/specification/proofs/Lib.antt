@@ -1,5 +1,4 @@
 pub mod CasesOnRecords
-pub mod ImagesOnRecords
 pub mod OnRecords
 pub mod Refused
 pub mod Rules

@@ -7,7 +7,6 @@ pub mod Delete
 pub mod Flush
 pub mod GetNumberPending
 pub mod Ident
-pub mod Images
 pub mod Lookup
 pub mod Receive
 pub mod Run

@@ -1,8 +1,8 @@
 -- The cases hold on bytes: what was computed on records is what a run on the byte tables comes to. Assumes nothing.
-use Prim.Native.Nat.{ℕ, _+_, _-_, _*_, _≤_, _<_}
+use Prim.Native.Nat.{ℕ, _+_, _-_, _*_, _≤_}
 use native.Mathlib.Omega.{arith}
-use mathlib.Core.Path.{_≡_, refl, sym, ap, ap₂, _∙_, subst}
-use mathlib.Core.Bool.{Bool, true, false, _&&_, false≢true}
+use mathlib.Core.Path.{_≡_, refl, sym, ap, ap₂, _∙_}
+use mathlib.Core.Bool.{Bool, true, false, false≢true}
 use mathlib.Core.List.{List, [], _∷_, map}
 use lib.Dec.{ltb, leb}
 use lib.ListN.{length, take, drop}
@@ -10,25 +10,23 @@ use lib.Seq.{take-take, drop-drop}
 use borrow.Author.Tests.{ltb-true, leb-true}
 use Rattle.ranks.specs.Lists.{allTrue}
 use Rattle.ranks.specs.Table.{slice}
-use Rattle.records.specs.Records.{State, queueAt, bufferAt, taskAt, fresh}
+use Rattle.records.specs.Records.{State, fresh}
 use Rattle.records.specs.Bytes.{Tables, encode}
-use Rattle.specification.specs.Call.{Call, argumentsInRange}
-use Rattle.specification.specs.Run.{Event, Run, run, goodPriorities, freshTables}
-use Rattle.specification.specs.Cases.{TableName, queueTable, poolTable, taskTable, Field, Case, Seen, callsOf, widthOf, fieldBytes, observed, expected, cases}
+use Rattle.specification.specs.Run.{freshTables}
+use Rattle.specification.specs.Cases.{TableName, queueTable, poolTable, taskTable, Excerpt, Case, callsOf, widthOf, rising, excerptBytes, observed, cases}
 use Rattle.theorems.specs.CasesHold.{CasesHold}
 use Rattle.ranks.proofs.Lists.{holds}
 use Rattle.ranks.proofs.Table.{drop-take}
 use Rattle.ranks.proofs.Tests.{both}
-use Rattle.specification.proofs.CasesOnRecords.{recordBytes, fieldOnRecords, observedFrom, observedOnRecords, countOf, fieldInRange, caseInRange, cases-on-records, cases-in-range}
-use Rattle.specification.proofs.OnRecords.{eventsOnRecords, stateAfter}
-use Rattle.specification.proofs.SoundFacts.{Sized, SoundFacts}
+use Rattle.specification.proofs.CasesOnRecords.{recordBytes, excerptOnRecords, observedOnRecords, countOf, excerptInRange, caseInRange, cases-on-records, cases-in-range, rising-good}
+use Rattle.specification.proofs.SoundFacts.{Sized}
 use Rattle.theorems.proofs.Encodable.{Encodable}
 use Rattle.theorems.proofs.Fresh.{priorities, fresh-sound}
 use Rattle.theorems.proofs.Noninterference.{fresh-fits}
-use Rattle.theorems.proofs.OnBytes.{queue-bytes, buffer-bytes, task-bytes, RunOnRecords, run-on-records}
+use Rattle.theorems.proofs.OnBytes.{queue-bytes, buffer-bytes, task-bytes, run-on-records}
 
 -- two functions that agree where a test is passed agree on a list of which all pass
-pub map-where : {A B : Type 0} (test : A → Bool) (f g : A → B) → ((a : A) → test a ≡ true → f a ≡ g a)
+map-where : {A B : Type 0} (test : A → Bool) (f g : A → B) → ((a : A) → test a ≡ true → f a ≡ g a)
     → (l : List A) → allTrue (map test l) ≡ true → map f l ≡ map g l
 unfolding allTrue
 map-where test f g h [] e = refl
@@ -53,9 +51,9 @@ slice-within i w place n l h =
     ∙ ap (take n) (drop-drop place i l))
 
 module _ (s : State) (z : Sized s) (f : Encodable s) where
-  pub field-bytes : (x : Field) → fieldInRange x ≡ true → fieldBytes (encode s) x ≡ fieldOnRecords s x
-  unfolding fieldBytes fieldOnRecords recordBytes fieldInRange
-  field-bytes x e = go (x .table) (both _ _ e)
+  excerpt-bytes : (x : Excerpt) → excerptInRange x ≡ true → excerptBytes (encode s) x ≡ excerptOnRecords s x
+  unfolding excerptBytes excerptOnRecords recordBytes excerptInRange
+  excerpt-bytes x e = go (x .table) (both _ _ e)
     where
       n : ℕ
       n = length (x .bytes)
@@ -66,31 +64,19 @@ module _ (s : State) (z : Sized s) (f : Encodable s) where
       go poolTable (h, k) = slice-within _ 128 (x .place) n _ (leb-true _ _ k) ∙ ap (slice (x .place) n) (buffer-bytes s z f (x .number) (ltb-true _ _ h))
       go taskTable (h, k) = slice-within _ 136 (x .place) n _ (leb-true _ _ k) ∙ ap (slice (x .place) n) (task-bytes s z f (x .number) (ltb-true _ _ h))
 
--- ---- What is seen of a run from records that fit their bytes
-
-abbrev pub seenFrom : Tables → List Event → List Field → Seen
-seenFrom t events fields =
-    let r = run t (map (λ e. e .call) events) in
-    record { events = r .events; bytes = map (fieldBytes (r .tables)) fields }
-
-pub seen-from : (s : State) → SoundFacts s → Encodable s → (events : List Event) (fields : List Field)
-    → allTrue (map argumentsInRange (map (λ (e : Event). e .call) events)) ≡ true → allTrue (map fieldInRange fields) ≡ true
-    → seenFrom (encode s) events fields ≡ observedFrom s events fields
-unfolding observedFrom
-seen-from s g f events fields args within =
-    let on = run-on-records (map (λ (e : Event). e .call) events) s g f args in
-    λ i. record {
-      events = on .events i;
-      bytes = (ap (λ (t : Tables). map (fieldBytes t) fields) (on .tables) ∙ map-where fieldInRange _ _ (field-bytes _ (on .sound .sized) (on .fits)) fields within) i;
-    }
-
 -- ---- The cases
 
 case-on-bytes : (k : Case) → caseInRange k ≡ true → observed k ≡ observedOnRecords k
 unfolding caseInRange observed observedOnRecords freshTables
 case-on-bytes k e =
-    let (ps, (args, (fields, _))) = holds _ e in
-    seen-from (fresh (k .priorities)) (fresh-sound (k .priorities) (priorities (k .priorities) ps)) (fresh-fits (k .priorities) ps) (k .events) (k .fields) args fields
+    let (arguments, (excerpts, _)) = holds _ e in
+    let on = run-on-records (callsOf k) (fresh rising) (fresh-sound rising (priorities rising rising-good)) (fresh-fits rising rising-good) arguments in
+    λ i. record {
+      events = on .events i;
+      bytes =
+          (ap (λ (t : Tables). map (excerptBytes t) (k .excerpts)) (on .tables)
+          ∙ map-where excerptInRange _ _ (excerpt-bytes _ (on .sound .sized) (on .fits)) (k .excerpts) excerpts) i;
+    }
 
 pub cases-hold : CasesHold
 cases-hold = map-where caseInRange observed observedOnRecords case-on-bytes cases cases-in-range ∙ cases-on-records

@@ -9,7 +9,6 @@ pub mod Equivalent
 pub mod FieldsInRange
 pub mod Fresh
 pub mod Ids
-pub mod ImagesOnBytes
 pub mod KeptQueues
 pub mod ListClear
 pub mod ListContents

@@ -2,7 +2,7 @@
 use Prim.Native.Nat.{ℕ, zero, suc, _+_, _-_, _%_, _≤_, _<_}
 use native.Mathlib.Omega.{arith}
 use mathlib.Core.Path.{_≡_, refl, sym, ap, subst, _∙_}
-use mathlib.Core.Bool.{Bool, true, false, true≢false}
+use mathlib.Core.Bool.{Bool, true, false}
 use mathlib.Core.Logic.{⊎-elim}
 use mathlib.Core.List.{List, [], _∷_}
 use lib.ListN.{length, getD, set}
@@ -16,7 +16,7 @@ use Rattle.ranks.proofs.Lists.{length-mapped, every-at, every-from}
 use Rattle.ranks.proofs.Ranks.{Ranked}
 use Rattle.ranks.proofs.Ranked.{implied, implying, from-ranked, from-positions}
 use Rattle.ranks.proofs.ByRank.{counted}
-use Rattle.records.specs.Records.{Queue, Task, State, freshTask, hasPriority, isLive}
+use Rattle.records.specs.Records.{Queue, Task, State, freshTask, hasPriority}
 use Rattle.records.specs.Bytes.{decodeTask, decodeTasks}
 use Rattle.records.proofs.Writing.{length-decoded}
 use Rattle.specification.specs.Sound.{byPriority}

@@ -16,7 +16,7 @@ use Rattle.ranks.proofs.Tests.{either, both, and, or-left, or-right}
 use Rattle.ranks.proofs.Lists.{at-mapped, mapped-cong, every-at, every-from}
 use Rattle.ranks.proofs.Ranked.{implied, from-ranked}
 use Rattle.records.specs.Split.{shareOfSlot, shareOfBuffer}
-use Rattle.records.specs.Records.{Queue, Buffer, Task, freeQueue, freeBuffer, freshTask, isLive}
+use Rattle.records.specs.Records.{Queue, Buffer, freeQueue, freeBuffer, freshTask, isLive}
 use Rattle.records.specs.Bytes.{decodeQueue, decodeQueues, decodeBuffer, decodePool, decodeTask, decodeTasks}
 use Rattle.records.proofs.Access.{at-map}
 use Rattle.records.proofs.Tabled.{slot-share-below, buffers-end, share-buffers}

@@ -6,11 +6,11 @@ use native.Mathlib.Omega.{arith}
 use mathlib.Core.Path.{_≡_, refl, sym, ap, subst, _∙_}
 use mathlib.Core.Bool.{Bool, true, false, _&&_, not, and-false, true≢false}
 use mathlib.Core.Logic.{⊎-elim}
-use mathlib.Core.List.{List, [], _∷_, map}
+use mathlib.Core.List.{List, [], _∷_}
 use lib.Dec.{eqb, ltb}
 use lib.ListN.{length, getD, take, drop, set, length-map, length-set, List·getD-eq-default}
 use lib.Seq.{drop-cons, getD-drop, getD-take, getD-set-same, getD-set-other, length-take-le, ext-getD}
-use borrow.Author.Tests.{eqb-true, eq-eqb, ne-eqb, ltb-true, lt-ltb, not-false, not-true}
+use borrow.Author.Tests.{eqb-true, eq-eqb, ltb-true, lt-ltb, not-false}
 use Rattle.ranks.specs.Lists.{if_then_else_, _implies_, countTrue, every, mapWithIndex, numbersFrom}
 use Rattle.ranks.specs.Position.{Position, noQueue, inQueue, standsAt}
 use Rattle.ranks.specs.Table.{records, positionIn, Shape}

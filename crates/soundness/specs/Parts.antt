@@ -1,5 +1,5 @@
 -- What the parts of the search look at, and what they pass on.
-use Rattle.ranks.specs.Prelude.{ℕ, suc, pred, _+_, _/_, _%_, _≤_, _<_, _≡_, Bool, true, false, List, [], map, length, getD, eqb, ltb, _&&_, _||_}
+use Rattle.ranks.specs.Prelude.{ℕ, suc, pred, _/_, _%_, _≤_, _<_, _≡_, Bool, true, false, List, [], map, length, getD, eqb, ltb, _&&_, _||_}
 use Rattle.ranks.specs.Lists.{if_then_else_, _implies_, mapWithIndex}
 use Rattle.ranks.specs.Position.{Position, noQueue, inQueue}
 use Rattle.ranks.specs.Table.{records, positionIn}

@@ -2,7 +2,6 @@
 use mathlib.Core.Bool.{and-true, and-assoc}
 use Rattle.ranks.proofs.Lists.{all-cons, all-nil}
 use Rattle.records.specs.Bytes.{decodeTask}
-use Rattle.records.specs.Records.{isLive, isOpen}
 use Rattle.specification.specs.Sound.{taskRules}
 use borrow.Author.Needs.{needs}
 use Rattle.soundness.proofs.tasks.waiting_task.Statement.{statement}

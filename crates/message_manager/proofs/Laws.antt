@@ -1,7 +1,8 @@
 -- The answer buffer: what is written into it, and what a function of the C interface returns. Assumes nothing.
 use Prim.Native.Nat.{ℕ}
 use native.Mathlib.Omega.{arith}
-use mathlib.Core.Path.{_≡_, ap, _∙_}
+use mathlib.Core.Path.{_≡_, sym, ap, _∙_}
+use mathlib.Core.Bool.{Bool}
 use mathlib.Core.List.{List, _++_}
 use lib.ListN.{length, drop-of-length-le}
 use borrow.Author.Tests.{eq-eqb, ne-eqb}
@@ -9,8 +10,8 @@ use Rattle.ranks.specs.Table.{spliced}
 use Rattle.records.specs.Bytes.{Tables, toLittleEndian}
 use Rattle.specification.specs.Answer.{Answer, Outcome}
 use Rattle.calllog.specs.CallLog.{answerBytes}
-use Rattle.runs.specs.Replay.{answerRecord}
-use Rattle.message_manager.specs.Interface.{answeredInto}
+use Rattle.runs.specs.Replay.{answerRecord, Replayed, ReplayedInto, intoLent}
+use Rattle.message_manager.specs.Interface.{answeredInto, returnedOf}
 
 -- An answer record that is written from place 0 on fills a buffer of 16 bytes.
 pub filled : (lent r : List ℕ) (a : Answer) (firstByte : ℕ) → length lent ≡ 16 → r ≡ answerRecord a firstByte → spliced lent 0 r ≡ answerRecord a firstByte
@@ -32,3 +33,7 @@ module _ (lent : List ℕ) (t : Tables) (firstByte : ℕ) where
       (λ i. record { status = s i; answer = w i; after = after })
       ∙ ap (λ (x : Outcome Tables). record { status = x .answer .status; answer = answerRecord (x .answer) firstByte; after = x .after }) done
       ∙ rw (eq-eqb (length lent) 16 h)
+
+-- a log was replayed, or was not, and the test of that went so
+pub returned : (r : Replayed) {done so : Bool} {x : ReplayedInto} → done ≡ so → intoLent done r ≡ x → returnedOf (intoLent so r) ≡ returnedOf x
+returned r h e = ap (λ (b : Bool). returnedOf (intoLent b r)) (sym h) ∙ ap returnedOf e

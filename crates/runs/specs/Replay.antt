@@ -110,11 +110,11 @@ replayedInto t log lent =
 
 -- ---- For the code
 
--- the tests of the tables' own, 16 and 10, gave the status
+-- the tables' own tests, 16 and 10, gave the status
 abbrev pub Tested : Tables → (status : ℕ) → Type 0
 Tested t status = status ≡ firstStatus (tableRefusals t)
 
--- where the next record of a log is replayed: its place is not at the end, and its answer record has room
+-- where the next record of a log is replayed: its place is not at the end, its answer record has room, and the tables' own tests gave the status
 pub record NextRecord (t : Tables) (status : ℕ) (log : List ℕ) (at : ℕ) (lent : List ℕ) (to : ℕ) : Type 0 where
   pub inside : at < length log
   pub room : to + 16 ≤ length lent

@@ -9,9 +9,12 @@ use Rattle.calllog.proofs.Laws.{call-at, call-other}
 use Rattle.calllog.proofs.decode.call_of.Statement.{statement}
 use Rattle.calllog.proofs.decode.call_of.Tie as tie
 
+abbrev entry : tie.After-read-u32 → tie.Start
+entry i = i .before .before .before .before .before .before
+
 -- what stands before the match: the record, its id and its ticks
 abbrev given : tie.After-shared-slice-known7 → List ℕ
-given s = s .before .before .before .before .before .before .before .before .before .args .r .now
+given s = entry (s .before .before .before) .args .r .now
 
 abbrev id : tie.After-shared-slice-known7 → ℕ
 id s = s .before .before .before .read-u32 .result

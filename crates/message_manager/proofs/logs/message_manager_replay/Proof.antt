@@ -1,15 +1,18 @@
 -- `message_manager::logs::message_manager_replay` meets its contract. Assumes nothing.
-use mathlib.Core.Path.{ap}
-use Rattle.message_manager.specs.Interface.{returnedOf}
+use Rattle.message_manager.proofs.Laws.{returned}
 use borrow.Author.Needs.{needs}
 use Rattle.message_manager.proofs.logs.message_manager_replay.Statement.{statement}
 use Rattle.message_manager.proofs.logs.message_manager_replay.Tie as tie
 
+-- what the replay did, from the test of what it answered
+abbrev replays : tie.After-slice-known8 → tie.After-replay
+replays c = c .before .before .before .before .before .before .before .before
+
 returns : tie.Need-returns
-returns c = rw (c .if1 .taken) at (ap returnedOf (c .before .before .before .before .before .before .before .before .before .replay .ensures))
+returns c = returned _ (c .if1 .taken) (replays (c .before) .replay .ensures)
 
 returns-2 : tie.Need-returns-2
-returns-2 c = rw (c .if1 .left) at (ap returnedOf (c .before .before .before .before .before .before .before .before .before .replay .ensures))
+returns-2 c = returned _ (c .if1 .left) (replays (c .before) .replay .ensures)
 
 pub message-manager-replay-spec : {M : Type 1} → statement M
 message-manager-replay-spec =

@@ -1,6 +1,5 @@
 -- Create by its cases, as the code goes through them. Assumes nothing.
 use Prim.Native.Nat.{ℕ, suc, _+_, _*_, _≤_, _<_}
-use native.Mathlib.Numerals.{add-one}
 use mathlib.Core.Path.{_≡_, refl, sym, ap, _∙_, subst}
 use mathlib.Core.Bool.{Bool, true, false, _&&_, not}
 use mathlib.Core.List.{List, [], _∷_}
@@ -93,14 +92,12 @@ module _ (t : Tables) (caller name limit maxSize attributes share : ℕ) (own : 
         search-found decodeQueue (freeQueue 0) 16 16 (isFreeSlot share) (t .queues) slot (in-range .3) found in
         ltb-true (before .generation) 65535 (holds (eqb (before .live) 0 ∷ eqb (shareOfSlot slot) share ∷ ltb (before .generation) 65535 ∷ []) free .1 .1 .0)
 
-    abbrev made : (ℕ → ℕ) → List Queue
-    made next = mapWithIndex (atIndex slot (λ q. newQueue (next (q .generation)) name limit maxSize attributes)) (decodeQueues (t .queues))
-
     slot-is : slot ≡ freeSlot (decode t) (shareOfTask caller)
     unfolding freeSlot decode
     slot-is = found ∙ ap (λ (p : ℕ). firstTrue (mapWithIndex (isFreeSlot p) (decodeQueues (t .queues)))) own
 
-    pub created : (r : CodeAnswer) (queues′ : List ℕ) → r ≡ Successful (idOf (before .generation + 1) slot) 0 → decodeQueues queues′ ≡ made (λ g. g + 1)
+    pub created : (r : CodeAnswer) (queues′ : List ℕ) → r ≡ Successful (idOf (suc (before .generation)) slot) 0
+        → decodeQueues queues′ ≡ mapWithIndex (atIndex slot (newQueue name limit maxSize attributes)) (decodeQueues (t .queues))
         → encode (decode (tables queues′ (t .pool) (t .tasks))) ≡ tables queues′ (t .pool) (t .tasks) → Outcome-is r (tables queues′ (t .pool) (t .tasks))
     unfolding answerOf effect Create.effect decode
     created r queues′ answered written kept =
@@ -108,13 +105,13 @@ module _ (t : Tables) (caller name limit maxSize attributes share : ℕ) (own : 
         ∙ ap (λ (i : ℕ). encoded (Create.effect (decode t) i name limit maxSize attributes)) slot-is
         ∙ sym (refuses-none t _ _ (subst None same-refusals none-of-them))
       where
-        value-is : idOf (before .generation + 1) slot ≡ idOf (suc (queueAt (decode t) slot .generation)) slot
-        value-is = ap (λ (g : ℕ). idOf g slot) (add-one (before .generation) ∙ ap (λ (q : Queue). suc (q .generation)) (sym (queue-at t slot (in-range .3))))
+        value-is : idOf (suc (before .generation)) slot ≡ idOf (suc (queueAt (decode t) slot .generation)) slot
+        value-is = ap (λ (q : Queue). idOf (suc (q .generation)) slot) (sym (queue-at t slot (in-range .3)))
 
         both-same : outcomeOf r (tables queues′ (t .pool) (t .tasks)) ≡ encoded (Create.effect (decode t) slot name limit maxSize attributes)
         both-same = λ i. record {
           answer = (ap answerOf answered ∙ ap (λ (v : ℕ). answerOf (Successful v 0)) value-is) i;
-          after = (sym kept ∙ ap (λ (l : List Queue). encode (record { queues = l; pool = decode t .pool; tasks = decode t .tasks })) (written ∙ ap made (λ j g. add-one g j))) i;
+          after = (sym kept ∙ ap (λ (l : List Queue). encode (record { queues = l; pool = decode t .pool; tasks = decode t .tasks })) written) i;
         }
 
 -- the queue records of sound tables are as their rules say

@@ -7,9 +7,9 @@ use Rattle.ranks.specs.Lists.{if_then_else_, mapWithIndex, mask, allTrue}
 use Rattle.ranks.specs.Position.{inQueue}
 use Rattle.ranks.specs.Table.{slice}
 use Rattle.records.specs.Layout.{slotOf}
-use Rattle.records.specs.Records.{Queue, freeBuffer, freeQueue}
+use Rattle.records.specs.Records.{Queue, freeBuffer}
 use Rattle.records.specs.Bytes.{Tables, decodeQueue, decodeQueues, decodePool, decodeTasks, decode, encode}
-use Rattle.records.specs.Changes.{atIndex, withPending, readyWith}
+use Rattle.records.specs.Changes.{atIndex, withPending, freed, readyWith}
 use Rattle.records.specs.Status.{INVALID-ID, ILLEGAL-ON-REMOTE-OBJECT}
 use Rattle.specification.specs.Answer.{Refusal, _⇒_, firstStatus}
 use Rattle.specification.specs.Call.{getNumberPending, flush, delete}
@@ -51,7 +51,7 @@ module _ (t : Tables) (caller id : ℕ) (q : Queue) (read : q ≡ decodeQueue (s
         (left queues′ pool′ (t .tasks) (Flush.effect (decode t) (slotOf id) .after) same written cleared refl)
 
     pub delete-done : (tasks′ : List ℕ) (woken : ℕ) → woken ≡ mask (mapWithIndex (λ k w. inQueue (slotOf id) (w .position)) (decodeTasks (t .tasks)))
-        → decodeQueues queues′ ≡ mapWithIndex (atIndex (slotOf id) (λ x. freeQueue (x .generation))) (decodeQueues (t .queues))
+        → decodeQueues queues′ ≡ mapWithIndex (atIndex (slotOf id) freed) (decodeQueues (t .queues))
         → decodeTasks tasks′ ≡ mapWithIndex (λ k w. if inQueue (slotOf id) (w .position) then readyWith 8 w else w) (decodeTasks (t .tasks))
         → encode (decode (tables queues′ pool′ tasks′)) ≡ tables queues′ pool′ tasks′
         → Answers t caller id delete q read (Successful 0 woken) (tables queues′ pool′ tasks′)

@@ -1,6 +1,6 @@
 // Create.
 ghost use mathlib.Core.Path.{_≡_};
-ghost use Prim.Native.Nat.{_+_, _*_, _<_};
+ghost use Prim.Native.Nat.{suc, _*_, _<_};
 ghost use lib.ListN.{length};
 ghost use mathlib.Core.Bool.{true, not};
 ghost use Rattle.ranks.specs.Lists.{within, mapWithIndex, firstTrue, every};
@@ -19,7 +19,6 @@ ghost use Rattle.manager.specs.Outcomes.{tables, outcomeOf, Callable, ac
 use crate::answer::Answer;
 use crate::call::call_refusal;
 use coremsg::lookup::id_of;
-use records::queue::QueueRecord;
 use records::queue::read_queue;
 use records::queue::write_queue;
 use records::shares::share_limit;
@@ -49,23 +48,6 @@ fn free_slot(queues: &[u8], share: usize) -> usize
         i += 1;
     }
     i
-}
-
-// A live queue with no message and no waiter.
-fn new_queue(generation: u16, name: u32, limit: u8, size: u8, attributes: u8) -> QueueRecord
-    ensures { λ r. ⌜ r ≡ newQueue generation name limit size attributes ⌝ }
-{
-    QueueRecord {
-        live: 1,
-        attributes,
-        limit,
-        maxSize: size,
-        generation,
-        pending: 0,
-        waiters: 0,
-        name,
-        reserved: [0, 0, 0, 0],
-    }
 }
 
 fn outside(low: u32, high: u32, x: u32) -> bool
@@ -108,7 +90,7 @@ fn refusal(
     0
 }
 
-// The queue is made in the slot.
+// The queue is made in the slot, whose record gets the next generation.
 fn create_in(
     queues: &mut [u8],
     slot: usize,
@@ -118,15 +100,16 @@ fn create_in(
     attributes: u8,
 ) -> Answer
     requires { ⌜ (length (now queues) ≡ 256) × ((slot < 16) × (decodeQueue (slice (slot * 16) 16 (now queues)) .generation < 65535)) ⌝ }
-    ensures { λ r. ⌜ (r ≡ Successful (idOf (decodeQueue (slice (slot * 16) 16 (now (queues .entry))) .generation + 1) slot) 0)
-        × (decodeQueues (now (queues .exit)) ≡ mapWithIndex (atIndex slot (λ q. newQueue (q .generation + 1) name limit size attributes)) (decodeQueues (now (queues .entry)))) ⌝ }
+    ensures { λ r. ⌜ (r ≡ Successful (idOf (suc (decodeQueue (slice (slot * 16) 16 (now (queues .entry))) .generation)) slot) 0)
+        × (decodeQueues (now (queues .exit)) ≡ mapWithIndex (atIndex slot (newQueue name limit size attributes)) (decodeQueues (now (queues .entry)))) ⌝ }
 {
     let q = read_queue(queues, slot);
     let generation = q.generation + 1;
     write_queue(
         queues,
         slot,
-        new_queue(generation, name, limit, size, attributes),
+        q.with_generation(generation)
+            .live_with(name, limit, size, attributes),
     );
     Answer::Successful(id_of(generation, slot), 0)
 }

@@ -1,6 +1,5 @@
 // Delete.
 ghost use mathlib.Core.Path.{_≡_};
-ghost use Rattle.records.specs.Records.{freeQueue};
 ghost use Rattle.specification.specs.Call.{call, onQueue, delete};
 ghost use Rattle.specification.specs.Step.{step};
 ghost use Rattle.manager.specs.Outcomes.{tables, outcomeOf, Callable, accepted};
@@ -10,26 +9,8 @@ use coremsg::lookup::owner_refusal;
 use coremsg::messages::clear_messages;
 use coremsg::waiters::ready_all;
 use coremsg::waiters::waiters_mask;
-use records::queue::QueueRecord;
 use records::queue::read_queue;
 use records::queue::write_queue;
-
-// A record that is zero but for its generation.
-fn free_queue(generation: u16) -> QueueRecord
-    ensures { λ r. ⌜ r ≡ freeQueue generation ⌝ }
-{
-    QueueRecord {
-        live: 0,
-        attributes: 0,
-        limit: 0,
-        maxSize: 0,
-        generation,
-        pending: 0,
-        waiters: 0,
-        name: 0,
-        reserved: [0, 0, 0, 0],
-    }
-}
 
 // Delete, on sound tables and for a caller that may call.
 pub fn delete(
@@ -52,7 +33,7 @@ pub fn delete(
     let woken = waiters_mask(tasks, slot);
     ready_all(tasks, slot, 8);
     clear_messages(pool, slot);
-    write_queue(queues, slot, free_queue(q.generation));
+    write_queue(queues, slot, q.freed());
     Answer::Successful(0, woken)
 }
 

@@ -1,7 +1,7 @@
 -- `manager::msgqdelete::delete` meets its contract. Assumes nothing.
 use native.Mathlib.Omega.{arith}
 use mathlib.Core.Path.{refl, sym, _∙_}
-use Rattle.records.specs.Records.{freeQueue}
+use Rattle.records.specs.Changes.{freed}
 use Rattle.specification.specs.Call.{delete}
 use Rattle.specification.specs.Delete
 use Rattle.specification.specs.Step.{operationRefusals}
@@ -48,11 +48,11 @@ returns-2 c =
     let woken = c .before .before .before .before .before .before .before .before .before .before .before .before .before .waiters-mask in
     let readied = c .before .before .before .before .before .before .before .before .before .before .before .ready-all in
     let cleared = c .before .before .before .before .before .before .before .clear-messages in
-    let made = c .before .before .before .free-queue in
+    let made = c .before .before .before .freed in
     let written = c .before .before .write-queue in
     delete-done (tables (a .queues .now) (a .pool .now) (a .tasks .now)) (a .caller) (a .id) (q .result) (q .ensures) (sym (c .before .before .before .before .before .before .before .before .before .before .before .before .before .before .before .if1 .left) ∙ c .before .before .before .before .before .before .before .before .before .before .before .before .before .before .before .before .owner-refusal .ensures)
     (written .last .0) (cleared .last .0) (cleared .ensures) (readied .last .0) (woken .result) (woken .ensures)
-    (queue-written (a .queues .now) _ _ (omega arith) (q .result) (made .result) (λ x. freeQueue (x .generation)) (q .ensures) (made .ensures) (written .ensures)) (readied .ensures)
+    (queue-written (a .queues .now) _ _ (omega arith) (q .result) (made .result) freed (q .ensures) (made .ensures) (written .ensures)) (readied .ensures)
     (as-encoded _ _ _ (a .caller) (s .pre) _ _ _ (written .kept .0) (cleared .kept .0) (readied .kept .0) (λ i. c .slice-known6 .given i .fits) (λ i. c .before .before .before .before .before .slice-known5 .given i .fits) (λ i. c .before .before .before .before .before .before .before .before .before .slice-known4 .given i .fits))
 
 pub delete-spec : {M : Type 1} → statement M

@@ -9,10 +9,12 @@ ghost use Rattle.ranks.specs.Steps.{inserted, takenOut, recordAt, Room};
 ghost use Rattle.ranks.specs.Table.{slice, records};
 ghost use Rattle.records.specs.Bytes.{decodeTasks, decodeTask};
 ghost use Rattle.records.specs.Changes.{atIndex, moveTask, readyWith, withMessage, waitingAt};
+ghost use Rattle.records.specs.Status.{TIMEOUT};
 use crate::masks::with_bit;
 use ranks::first;
 use ranks::insert;
 use ranks::take_out;
+use records::status::TIMEOUT;
 use records::task::deliver;
 use records::task::read_head;
 use records::task::write_head;
@@ -113,10 +115,10 @@ pub fn deliver_first(tasks: &mut [u8], t: usize, slot: usize, message: &[u8])
 // Task t leaves the queue of the slot, where it stands at the rank, with status TIMEOUT.
 pub fn time_out(tasks: &mut [u8], t: usize, slot: u8, rank: u8)
     requires { ⌜ (t < 32) × ((slot < 16) × (length (now tasks) ≡ 4352)) ⌝ }
-    ensures { λ _. ⌜ decodeTasks (now (tasks .exit)) ≡ mapWithIndex (λ j w. if eqb j t then readyWith 7 w else moveTask (takenOut t slot rank j (w .position)) w) (decodeTasks (now (tasks .entry))) ⌝ }
+    ensures { λ _. ⌜ decodeTasks (now (tasks .exit)) ≡ mapWithIndex (λ j w. if eqb j t then readyWith TIMEOUT w else moveTask (takenOut t slot rank j (w .position)) w) (decodeTasks (now (tasks .entry))) ⌝ }
 {
     ranks::take_out(tasks, 136, 1, 32, t, slot, rank);
-    make_ready(tasks, t, 7);
+    make_ready(tasks, t, TIMEOUT);
 }
 
 // Task t waits at the rank of the queue in the slot; those at that rank or behind it move back.

@@ -14,6 +14,8 @@ use Rattle.records.specs.Records.{Queue, State, queueAt, freeQueue}
 use Rattle.records.specs.Layout.{idOf}
 use Rattle.records.specs.Bytes.{Tables, decodeQueue, decodeQueues, decode, encode}
 use Rattle.records.specs.Changes.{atIndex}
+use Rattle.records.specs.Status.{statusNumber}
+use Rattle.records.specs.declared.status.RefusalStatus.{RefusalStatus}
 use Rattle.records.proofs.Access.{queue-at}
 use Rattle.specification.specs.Create.{isFreeSlot, freeSlot, refusals, newQueue}
 use Rattle.specification.specs.Sound.{soundQueue, limits, sound}
@@ -64,8 +66,8 @@ module _ (t : Tables) (caller name limit maxSize attributes share : ℕ) (own : 
   unfolding directiveRefusals refusals freeSlot limits decode
   same-refusals = ap (λ (p : ℕ). refusals (onlyQueues (t .queues)) p name limit maxSize attributes) own
 
-  pub refused-create : (n : ℕ) → n ≡ firstStatus code-refusals → (n ≡ 0 → ⊥) → Outcome-is (Refused n) t
-  refused-create n e ne = refused t _ _ n (e ∙ ap firstStatus same-refusals) ne
+  pub refused-create : (s : RefusalStatus) → statusNumber s ≡ firstStatus code-refusals → Outcome-is (Refused s) t
+  refused-create s e = refused t _ _ s (e ∙ ap firstStatus same-refusals)
 
   module _ (passed : 0 ≡ firstStatus code-refusals) (slot : ℕ)
       (found : slot ≡ firstTrue (mapWithIndex (isFreeSlot share) (decodeQueues (t .queues)))) where

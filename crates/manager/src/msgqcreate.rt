@@ -11,6 +11,7 @@ ghost use Rattle.specification.specs.Sound.{soundQueue};
 ghost use Rattle.specification.specs.Step.{step};
 ghost use Rattle.specification.specs.Create.{isFreeSlot, newQueue, refusals};
 ghost use Rattle.records.specs.Layout.{idOf};
+ghost use Rattle.records.specs.Status.{verdictStatus};
 ghost use Rattle.records.specs.Changes.{atIndex};
 ghost use Rattle.manager.specs.declared.answer.Answer.the-variants.{Successful};
 ghost use Rattle.specification.specs.Answer.{firstStatus};
@@ -24,6 +25,8 @@ use records::queue::write_queue;
 use records::shares::share_limit;
 use records::shares::share_of_slot;
 use records::shares::share_of_task;
+use records::status::RefusalStatus;
+use records::status::Verdict;
 use soundness::queues::share_limits;
 
 // The slot is free, of the share, and not spent.
@@ -56,7 +59,7 @@ fn outside(low: u32, high: u32, x: u32) -> bool
     !((low <= x) & (x <= high))
 }
 
-// The status of the first refusal, or 0. The slot is the one that create would take.
+// The first refusal. The slot is the one that create would take.
 fn refusal(
     queues: &[u8],
     share: usize,
@@ -65,29 +68,29 @@ fn refusal(
     limit: u32,
     size: u32,
     attributes: u32,
-) -> u8
+) -> Verdict
     requires { ⌜ (length (now queues) ≡ 256) × ((share < 4) × ((slot ≡ firstTrue (mapWithIndex (isFreeSlot share) (decodeQueues (now queues)))) × (every (λ i q. soundQueue q) (decodeQueues (now queues)) ≡ true))) ⌝ }
-    ensures { λ r. ⌜ r ≡ firstStatus (refusals (onlyQueues (now (queues .entry))) share name limit size attributes) ⌝ }
+    ensures { λ r. ⌜ verdictStatus r ≡ firstStatus (refusals (onlyQueues (now (queues .entry))) share name limit size attributes) ⌝ }
 {
     if name == 0 {
-        return 1;
+        return Verdict::Refused(RefusalStatus::InvalidName);
     }
     if 3 < attributes {
-        return 15;
+        return Verdict::Refused(RefusalStatus::InvalidOption);
     }
     if outside(1, 16, limit) {
-        return 4;
+        return Verdict::Refused(RefusalStatus::InvalidNumber);
     }
     if outside(1, 120, size) {
-        return 3;
+        return Verdict::Refused(RefusalStatus::InvalidSize);
     }
     if 16 <= slot {
-        return 5;
+        return Verdict::Refused(RefusalStatus::TooMany);
     }
     if share_limit(share) < share_limits(queues, share) + limit as usize {
-        return 6;
+        return Verdict::Refused(RefusalStatus::Unsatisfied);
     }
-    0
+    Verdict::Passed
 }
 
 // The queue is made in the slot, whose record gets the next generation.
@@ -131,8 +134,8 @@ pub fn create(
 {
     let share = share_of_task(caller);
     let slot = free_slot(queues, share);
-    let status = refusal(queues, share, slot, name, limit, size, attributes);
-    if status != 0 {
+    let verdict = refusal(queues, share, slot, name, limit, size, attributes);
+    if let Verdict::Refused(status) = verdict {
         return Answer::Refused(status);
     }
     create_in(
@@ -158,8 +161,8 @@ pub fn message_queue_create(
     ensures { λ r. ⌜ outcomeOf r (tables (now (queues .exit)) (now (pool .entry)) (now (tasks .entry)))
         ≡ step (tables (now (queues .entry)) (now (pool .entry)) (now (tasks .entry))) (call caller (create name limit size attributes)) ⌝ }
 {
-    let status = call_refusal(queues, pool, tasks, caller);
-    if status != 0 {
+    let verdict = call_refusal(queues, pool, tasks, caller);
+    if let Verdict::Refused(status) = verdict {
         return Answer::Refused(status);
     }
     create(

@@ -11,6 +11,8 @@ use coremsg::waiters::ready_all;
 use coremsg::waiters::waiters_mask;
 use records::queue::read_queue;
 use records::queue::write_queue;
+use records::status::OBJECT_WAS_DELETED;
+use records::status::Verdict;
 
 // Delete, on sound tables and for a caller that may call.
 pub fn delete(
@@ -26,12 +28,12 @@ pub fn delete(
 {
     let slot = (id % 16) as usize;
     let q = read_queue(queues, slot);
-    let status = owner_refusal(q, caller, id);
-    if status != 0 {
+    let verdict = owner_refusal(q, caller, id);
+    if let Verdict::Refused(status) = verdict {
         return Answer::Refused(status);
     }
     let woken = waiters_mask(tasks, slot);
-    ready_all(tasks, slot, 8);
+    ready_all(tasks, slot, OBJECT_WAS_DELETED);
     clear_messages(pool, slot);
     write_queue(queues, slot, q.freed());
     Answer::Successful(0, woken)
@@ -47,8 +49,8 @@ pub fn message_queue_delete(
     ensures { λ r. ⌜ outcomeOf r (tables (now (queues .exit)) (now (pool .exit)) (now (tasks .exit)))
         ≡ step (tables (now (queues .entry)) (now (pool .entry)) (now (tasks .entry))) (call caller (onQueue id delete)) ⌝ }
 {
-    let status = call_refusal(queues, pool, tasks, caller);
-    if status != 0 {
+    let verdict = call_refusal(queues, pool, tasks, caller);
+    if let Verdict::Refused(status) = verdict {
         return Answer::Refused(status);
     }
     delete(queues, pool, tasks, caller as usize, id)

@@ -10,8 +10,8 @@ use Rattle.calllog.specs.declared.call.Directive.the-variants.{Create, I
 use Rattle.calllog.specs.declared.call.Call.the-variants.{By, Tick}
 use Rattle.calllog.specs.declared.call.LogResult.{LogResult}
 use Rattle.calllog.specs.declared.call.LogResult.the-variants.{WellFormed, Malformed, End}
-use Rattle.calllog.specs.declared.reader.Step.{Step}
-use Rattle.calllog.specs.CallLog.{rows, rowOf, names, keepsRow, callWith, callIn, readRecord, readAt, placeAfter, stepAt, answerBytes}
+use Rattle.calllog.specs.declared.reader.Reading.{Reading}
+use Rattle.calllog.specs.CallLog.{rows, rowOf, names, keepsRow, callWith, callIn, readRecord, readAt, placeAfter, readingAt, answerBytes}
 
 record Case : Type 0 where
   bytes : List ℕ
@@ -68,10 +68,10 @@ cases-hold = refl
 abbrev log : List ℕ
 log = begins (10 ∷ []) ++ take 135 (begins (10 ∷ []))
 
-abbrev step : LogResult → ℕ → Step
-step result next = record { result = result; next = next }
+abbrev reading : LogResult → ℕ → Reading
+reading result next = record { result = result; next = next }
 
-log-read : map (stepAt log) (0 ∷ 136 ∷ 271 ∷ 300 ∷ []) ≡ step (WellFormed Tick) 136 ∷ step Malformed 271 ∷ step End 271 ∷ step End 300 ∷ []
+log-read : map (readingAt log) (0 ∷ 136 ∷ 271 ∷ 300 ∷ []) ≡ reading (WellFormed Tick) 136 ∷ reading Malformed 271 ∷ reading End 271 ∷ reading End 300 ∷ []
 unfolding rows rowOf names keepsRow callWith callIn readRecord readAt placeAfter allTrue allZero slice fromLittleEndian
 log-read = refl
 

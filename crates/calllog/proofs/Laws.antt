@@ -4,22 +4,22 @@ use native.Mathlib.Nat.{add-zero}
 use native.Mathlib.Numerals.{add-one}
 use native.Mathlib.Omega.{arith}
 use mathlib.Core.Path.{_≡_, refl, sym, ap, ap₂, _∙_}
-use mathlib.Core.Bool.{Bool, true, false, _&&_, _||_, and-assoc, and-true, and-false}
+use mathlib.Core.Bool.{Bool, false, not, _&&_, _||_, and-assoc, and-true}
 use mathlib.Core.Logic.{_⊎_, inl, inr}
 use mathlib.Core.List.{List, [], _∷_, map}
+use lib.Bits.{bitAnd}
 use lib.Dec.{eqb, leb}
 use lib.ListN.{length, getD, take, drop, List·getD-map, List·getD-eq-default, drop-of-length-le, length-take, length-drop}
 use lib.Seq.{drop-cons, take-all}
-use borrow.Author.Tests.{eq-eqb, ne-eqb, le-ltb, lt-ltb, eqb-true}
+use borrow.Author.Tests.{eq-eqb, ne-eqb, le-ltb, lt-ltb}
 use Rattle.ranks.specs.Lists.{if_then_else_, allTrue, allZero}
 use Rattle.ranks.specs.Table.{slice, byte}
-use Rattle.ranks.proofs.Lists.{zeros-cons, zeros-nil}
+use Rattle.ranks.proofs.Lists.{all-cons, all-nil, zeros-cons, zeros-nil}
 use Rattle.ranks.proofs.Tests.{same?}
 use Rattle.records.specs.Bytes.{fromLittleEndian}
 use Rattle.records.proofs.ZeroBytes.{zero-number}
-use Rattle.calllog.specs.declared.rows.Row.{Row}
 use Rattle.calllog.specs.declared.call.LogResult.the-variants.{Malformed, End}
-use Rattle.calllog.specs.CallLog.{Field, operation, caller, option, size, id, ticks, limit, maxSize, message, _of_, rows, rowOf, names, flags, keepsRow, callWith, callIn, readRecord, readAt, placeAfter}
+use Rattle.calllog.specs.CallLog.{Field, operation, caller, option, size, id, ticks, limit, maxSize, message, _of_, rows, rowOf, names, bitsIn, bitsOf, keepsRow, callWith, callIn, readRecord, readAt, placeAfter}
 
 -- ---- Numbers in fields
 
@@ -42,49 +42,32 @@ two-zeros k r h =
 
 -- ---- The rows
 
--- every row of the code at once: the flags of the definition's rows, computed
-pub row-at : (k : ℕ) → getD (map flags rows) k (flags []) ≡ flags (rowOf k)
-unfolding rowOf
-row-at k = List·getD-map flags rows k []
+-- every row of the code at once: the bits of the definition's rows, computed
+pub row-at : (k : ℕ) → getD (map bitsOf rows) k 0 ≡ bitsOf (rowOf k)
+unfolding rowOf bitsOf bitsIn names
+row-at k = List·getD-map bitsOf rows k []
 
-pub row-beyond : (k : ℕ) → 11 ≤ k → flags [] ≡ flags (rowOf k)
-unfolding rows rowOf
-row-beyond k h = ap flags (sym (List·getD-eq-default rows [] h))
+pub row-beyond : (k : ℕ) → 11 ≤ k → 0 ≡ bitsOf (rowOf k)
+unfolding rows rowOf bitsOf bitsIn names
+row-beyond k h = ap bitsOf (sym (List·getD-eq-default rows [] h))
 
--- a row that names the message names its size, and the other way round: all rows at once, computed
-message-with-size : (k : ℕ) → names (rowOf k) message ≡ names (rowOf k) size
-unfolding rows rowOf names
-message-with-size k =
-    sym (List·getD-map (λ (row : List Field). names row message) rows k []) ∙ List·getD-map (λ (row : List Field). names row size) rows k []
+-- whether a row has a field's bit is whether it names the field: all rows at once, computed
+abbrev has : (bits bit : ℕ) → Bool
+has bits bit = not (eqb (bitAnd bits bit) 0)
+
+bit-named : (field : Field) (bit k : ℕ) → map (λ (row : List Field). has (bitsOf row) bit) rows ≡ map (λ (row : List Field). names row field) rows
+    → has (bitsOf (rowOf k)) bit ≡ names (rowOf k) field
+unfolding rowOf names bitsOf bitsIn
+bit-named field bit k e =
+    sym (List·getD-map (λ (row : List Field). has (bitsOf row) bit) rows k []) ∙ ap (λ (l : List Bool). getD l k false) e
+    ∙ List·getD-map (λ (row : List Field). names row field) rows k []
 
 -- ---- A record that keeps its row
 
--- the code's tests, one after the other, are the definition's; the test of the message is none of its own
-in-order : (a b s c d e f m g t z : Bool) → (s ≡ true → m && z ≡ z)
-    → (a && b && s && c && d && e && f && g && t && z) ≡ allTrue (allTrue (a ∷ b ∷ s ∷ c ∷ d ∷ e ∷ f ∷ m ∷ []) ∷ g ∷ t ∷ z ∷ [])
-unfolding allTrue
-in-order false b s c d e f m g t z k = refl
-in-order true false s c d e f m g t z k = refl
-in-order true true false c d e f m g t z k = refl
-in-order true true true false d e f m g t z k = refl
-in-order true true true true false e f m g t z k = refl
-in-order true true true true true false f m g t z k = refl
-in-order true true true true true true false m g t z k = refl
-in-order true true true true true true true false g t z k = ap (λ (x : Bool). g && t && x) (sym (k refl)) ∙ and-false (g && t)
-in-order true true true true true true true true false t z k = refl
-in-order true true true true true true true true true false z k = refl
-in-order true true true true true true true true true true true k = refl
-in-order true true true true true true true true true true false k = refl
-
--- where there is no message, its size is 0 and it is zero after its size
-no-message : (b : Bool) (n : ℕ) (l : List ℕ) → b || eqb n 0 ≡ true → ((b || allZero l) && allZero (drop n l)) ≡ allZero (drop n l)
-no-message true n l e = refl
-no-message false n l e =
-    ap (λ (k : ℕ). allZero l && allZero (drop k l)) (eqb-true n 0 e) ∙ same (allZero l) ∙ ap (λ (k : ℕ). allZero (drop k l)) (sym (eqb-true n 0 e))
-  where
-    same : (x : Bool) → x && x ≡ x
-    same true = refl
-    same false = refl
+-- the code's tests, one after the other, are the definition's
+in-order : (a b c d e f g h i j k : Bool)
+    → (a && b && c && d && e && f && g && h && i && j && k) ≡ allTrue (allTrue (a ∷ b ∷ c ∷ d ∷ e ∷ f ∷ g ∷ h ∷ []) ∷ i ∷ j ∷ k ∷ [])
+in-order a b c d e f g h i j k = simp (all-cons, all-nil, and-assoc, and-true)
 
 module _ (r : List ℕ) (whole : length r ≡ 136) where
   to-message : drop 16 r ≡ slice 16 120 r
@@ -95,26 +78,25 @@ module _ (r : List ℕ) (whole : length r ≡ 136) where
   zero-at n at e = ap (λ (m : ℕ). eqb m 0) e ∙ zero-number (slice at 4 r)
 
   -- the code's tests of a record
-  module _ (k : ℕ) (w : Row) (e : w ≡ flags (rowOf k)) (i t : ℕ) (p : i ≡ fromLittleEndian (slice 4 4 r)) (q : t ≡ fromLittleEndian (slice 8 4 r))
-      (z : Bool) (o : z ≡ allZero (drop (byte 3 r) (drop 16 r))) where
-    pub keeps : ((w .caller || eqb (byte 1 r) 0) && (w .option || eqb (byte 2 r) 0) && (w .size || eqb (byte 3 r) 0) && (w .id || eqb i 0)
-        && (w .ticks || eqb t 0) && (w .limit || eqb (byte 12 r) 0) && (w .maxSize || eqb (byte 13 r) 0) && (eqb (byte 14 r) 0 && eqb (byte 15 r) 0)
-        && leb (byte 3 r) 120 && z) ≡ keepsRow (rowOf k) r
-    unfolding keepsRow flags
+  module _ (k row : ℕ) (e : row ≡ bitsOf (rowOf k)) (i t : ℕ) (p : i ≡ fromLittleEndian (slice 4 4 r)) (q : t ≡ fromLittleEndian (slice 8 4 r))
+      (m : Bool) (n : m ≡ allZero (drop 16 r)) (z : Bool) (o : z ≡ allZero (drop (byte 3 r) (drop 16 r))) where
+    bit-is : (field : Field) (bit : ℕ) → map (λ (row : List Field). has (bitsOf row) bit) rows ≡ map (λ (row : List Field). names row field) rows
+        → has row bit ≡ names (rowOf k) field
+    bit-is field bit same = ap (λ (b : ℕ). has b bit) e ∙ bit-named field bit k same
+
+    pub keeps : ((has row 1 || eqb (byte 1 r) 0) && (has row 2 || eqb (byte 2 r) 0) && (has row 4 || eqb (byte 3 r) 0) && (has row 8 || eqb i 0)
+        && (has row 16 || eqb t 0) && (has row 32 || eqb (byte 12 r) 0) && (has row 64 || eqb (byte 13 r) 0) && (has row 128 || m)
+        && (eqb (byte 14 r) 0 && eqb (byte 15 r) 0) && leb (byte 3 r) 120 && z) ≡ keepsRow (rowOf k) r
+    unfolding keepsRow rows names bitsOf bitsIn
     keeps =
-        (λ j. (e j .caller || eqb (byte 1 r) 0) && (e j .option || eqb (byte 2 r) 0) && (e j .size || eqb (byte 3 r) 0) && (e j .id || eqb i 0)
-        && (e j .ticks || eqb t 0) && (e j .limit || eqb (byte 12 r) 0) && (e j .maxSize || eqb (byte 13 r) 0) && (eqb (byte 14 r) 0 && eqb (byte 15 r) 0)
-        && leb (byte 3 r) 120 && o j)
-        ∙ in-order _ _ _ _ _ _ _ (names (rowOf k) message || allZero (drop 16 r)) _ _ (allZero (drop (byte 3 r) (drop 16 r)))
-        (λ s. ap (λ (b : Bool). (b || allZero (drop 16 r)) && allZero (drop (byte 3 r) (drop 16 r))) (message-with-size k)
-        ∙ no-message (names (rowOf k) size) (byte 3 r) (drop 16 r) s)
+        in-order _ _ _ _ _ _ _ _ _ _ _
         ∙ (λ j. allTrue
         (allTrue
-        ((names (rowOf k) caller || zero-byte 1 r j) ∷ (names (rowOf k) option || zero-byte 2 r j) ∷ (names (rowOf k) size || zero-byte 3 r j)
-        ∷ (names (rowOf k) id || zero-at i 4 p j) ∷ (names (rowOf k) ticks || zero-at t 8 q j)
-        ∷ (names (rowOf k) limit || zero-byte 12 r j) ∷ (names (rowOf k) maxSize || zero-byte 13 r j)
-        ∷ (names (rowOf k) message || allZero (to-message j)) ∷ [])
-        ∷ two-zeros 14 r (omega arith) j ∷ leb (one-byte 3 r j) 120 ∷ allZero (drop (one-byte 3 r j) (to-message j)) ∷ []))
+        ((bit-is caller 1 refl j || zero-byte 1 r j) ∷ (bit-is option 2 refl j || zero-byte 2 r j) ∷ (bit-is size 4 refl j || zero-byte 3 r j)
+        ∷ (bit-is id 8 refl j || zero-at i 4 p j) ∷ (bit-is ticks 16 refl j || zero-at t 8 q j) ∷ (bit-is limit 32 refl j || zero-byte 12 r j)
+        ∷ (bit-is maxSize 64 refl j || zero-byte 13 r j) ∷ (bit-is message 128 refl j || (n ∙ ap allZero to-message) j) ∷ [])
+        ∷ two-zeros 14 r (omega arith) j ∷ leb (one-byte 3 r j) 120
+        ∷ (o ∙ (λ j. allZero (drop (one-byte 3 r j) (to-message j)))) j ∷ []))
 
 -- ---- The call of an operation
 

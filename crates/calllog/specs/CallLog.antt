@@ -1,14 +1,13 @@
 -- Document 01, "The call log": what the bytes of a log say.
-use Rattle.ranks.specs.Prelude.{ℕ, _+_, min, Bool, false, _&&_, _||_, List, [], _∷_, _++_, map, length, getD, drop, replicate, eqb, leb, ltb}
+use Rattle.ranks.specs.Prelude.{ℕ, _+_, _*_, min, Bool, false, _&&_, _||_, List, [], _∷_, _++_, map, length, getD, drop, replicate, eqb, leb, ltb}
 use Rattle.ranks.specs.Lists.{if_then_else_, allTrue, allZero}
 use Rattle.ranks.specs.Table.{slice}
 use Rattle.records.specs.Bytes.{fromLittleEndian, toLittleEndian}
-use Rattle.calllog.specs.declared.rows.Row.{Row}
 use Rattle.calllog.specs.declared.call.Directive.the-variants.{Create, Ident, Delete, Send, Urgent, Broadcast, Receive, Pending, Flush}
 use Rattle.calllog.specs.declared.call.Call.the-variants.{By, Tick}
 use Rattle.calllog.specs.declared.call.LogResult.{LogResult}
 use Rattle.calllog.specs.declared.call.LogResult.the-variants.{WellFormed, Malformed, End}
-use Rattle.calllog.specs.declared.reader.Step.{Step}
+use Rattle.calllog.specs.declared.reader.Reading.{Reading}
 
 -- ---- The fields of a record
 
@@ -165,27 +164,23 @@ unfoldable pub placeAfter : (log : List ℕ) (at : ℕ) → ℕ
 placeAfter log at = if ltb at (length log) then min (at + recordWidth) (length log) else at
 
 -- both
-abbrev pub stepAt : (log : List ℕ) (at : ℕ) → Step
-stepAt log at = record { result = readAt log at; next = placeAfter log at }
+abbrev pub readingAt : (log : List ℕ) (at : ℕ) → Reading
+readingAt log at = record { result = readAt log at; next = placeAfter log at }
 
 -- ---- Answer records
 
 -- "An answer record is 16 bytes: status, first byte of the call, 0, 0, value, mask, four zeros."
-unfoldable pub answerBytes : (status first value mask : ℕ) → List ℕ
-answerBytes status first value mask =
-    status ∷ first ∷ 0 ∷ 0 ∷ toLittleEndian 4 value ++ toLittleEndian 4 mask ++ replicate 4 0
+unfoldable pub answerBytes : (status firstByte value mask : ℕ) → List ℕ
+answerBytes status firstByte value mask =
+    status ∷ firstByte ∷ 0 ∷ 0 ∷ toLittleEndian 4 value ++ toLittleEndian 4 mask ++ replicate 4 0
 
 -- ---- For the code
 
--- the fields that a row names, but the message, which goes with its size
-unfoldable pub flags : List Field → Row
-flags row =
-    record {
-      caller = names row caller;
-      option = names row option;
-      size = names row size;
-      id = names row id;
-      ticks = names row ticks;
-      limit = names row limit;
-      maxSize = names row maxSize;
-    }
+-- the bit of a field in a row: that of its place in `fields`
+unfoldable pub bitsIn : List Field → (fields : List Field) (bit : ℕ) → ℕ
+bitsIn row [] bit = 0
+bitsIn row (f ∷ fs) bit = (if names row f then bit else 0) + bitsIn row fs (bit * 2)
+
+-- a row as a number: 1 for the first of the fields, 2 for the second and so on
+unfoldable pub bitsOf : List Field → ℕ
+bitsOf row = bitsIn row fields 1

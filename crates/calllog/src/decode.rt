@@ -6,6 +6,14 @@ ghost use Rattle.calllog.specs.CallLog.{rowOf, keepsRow, callIn, readRec
 use crate::call::Call;
 use crate::call::Directive;
 use crate::call::LogResult;
+use crate::rows::CALLER;
+use crate::rows::ID;
+use crate::rows::LIMIT;
+use crate::rows::MAX_SIZE;
+use crate::rows::MESSAGE;
+use crate::rows::OPTION;
+use crate::rows::SIZE;
+use crate::rows::TICKS;
 use crate::rows::row_of;
 use records::bytes::read_u32;
 use records::bytes::wide;
@@ -25,13 +33,14 @@ fn keeps_row(operation: usize, r: &[u8]) -> bool
 {
     let row = row_of(operation);
     let size = r[3];
-    (row.caller | (r[1] == 0))
-        & (row.option | (r[2] == 0))
-        & (row.size | (size == 0))
-        & (row.id | (read_u32(r, 4) == 0))
-        & (row.ticks | (read_u32(r, 8) == 0))
-        & (row.limit | (r[12] == 0))
-        & (row.maxSize | (r[13] == 0))
+    (((row & CALLER) != 0) | (r[1] == 0))
+        & (((row & OPTION) != 0) | (r[2] == 0))
+        & (((row & SIZE) != 0) | (size == 0))
+        & (((row & ID) != 0) | (read_u32(r, 4) == 0))
+        & (((row & TICKS) != 0) | (read_u32(r, 8) == 0))
+        & (((row & LIMIT) != 0) | (r[12] == 0))
+        & (((row & MAX_SIZE) != 0) | (r[13] == 0))
+        & (((row & MESSAGE) != 0) | zeros_from(r, 16))
         & ((r[14] == 0) & (r[15] == 0))
         & (size <= 120)
         & zero_after(r, size)

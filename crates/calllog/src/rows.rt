@@ -1,138 +1,45 @@
 // The fields that each operation may use.
 ghost use mathlib.Core.Path.{_≡_};
-ghost use Rattle.calllog.specs.CallLog.{rowOf, flags};
+ghost use Rattle.calllog.specs.CallLog.{rowOf, bitsOf};
 
-// The fields of a row. A message goes with its size.
-pub struct Row {
-    pub caller: bool,
-    pub option: bool,
-    pub size: bool,
-    pub id: bool,
-    pub ticks: bool,
-    pub limit: bool,
-    pub maxSize: bool,
-}
+// The fields that a row may name, a bit for each.
+pub const CALLER: u8 = 1; // "1 caller"
 
-// The row of each operation, at its number.
-const ROWS: [Row; 11] = [
-    // no operation has number 0
-    Row {
-        caller: false,
-        option: false,
-        size: false,
-        id: false,
-        ticks: false,
-        limit: false,
-        maxSize: false,
-    },
-    // 1 create
-    Row {
-        caller: true,
-        option: true,
-        size: false,
-        id: true,
-        ticks: false,
-        limit: true,
-        maxSize: true,
-    },
-    // 2 ident
-    Row {
-        caller: true,
-        option: false,
-        size: false,
-        id: true,
-        ticks: true,
-        limit: false,
-        maxSize: false,
-    },
-    // 3 delete
-    Row {
-        caller: true,
-        option: false,
-        size: false,
-        id: true,
-        ticks: false,
-        limit: false,
-        maxSize: false,
-    },
-    // 4 send
-    Row {
-        caller: true,
-        option: false,
-        size: true,
-        id: true,
-        ticks: false,
-        limit: false,
-        maxSize: false,
-    },
-    // 5 urgent
-    Row {
-        caller: true,
-        option: false,
-        size: true,
-        id: true,
-        ticks: false,
-        limit: false,
-        maxSize: false,
-    },
-    // 6 broadcast
-    Row {
-        caller: true,
-        option: false,
-        size: true,
-        id: true,
-        ticks: false,
-        limit: false,
-        maxSize: false,
-    },
-    // 7 receive
-    Row {
-        caller: true,
-        option: true,
-        size: false,
-        id: true,
-        ticks: true,
-        limit: false,
-        maxSize: false,
-    },
-    // 8 pending
-    Row {
-        caller: true,
-        option: false,
-        size: false,
-        id: true,
-        ticks: false,
-        limit: false,
-        maxSize: false,
-    },
-    // 9 flush
-    Row {
-        caller: true,
-        option: false,
-        size: false,
-        id: true,
-        ticks: false,
-        limit: false,
-        maxSize: false,
-    },
-    // 10 tick
-    Row {
-        caller: false,
-        option: false,
-        size: false,
-        id: false,
-        ticks: false,
-        limit: false,
-        maxSize: false,
-    },
+pub const OPTION: u8 = 2; // "2 attributes or option"
+
+pub const SIZE: u8 = 4; // "3 size"
+
+pub const ID: u8 = 8; // "4-7 id or name"
+
+pub const TICKS: u8 = 16; // "8-11 ticks or share"
+
+pub const LIMIT: u8 = 32; // "12 limit"
+
+pub const MAX_SIZE: u8 = 64; // "13 max size"
+
+pub const MESSAGE: u8 = 128; // "16-135 message"
+
+// "A fixed row per operation says which fields it may use": the row of each operation, at its number.
+const ROWS: [u8; 11] = [
+    0, // no operation has number 0
+    CALLER | OPTION | ID | LIMIT | MAX_SIZE, // create, "1: 1, 2, 4-7, 12, 13"
+    CALLER | ID | TICKS, // ident, "2: 1, 4-7, 8-11"
+    CALLER | ID, // delete, "3, 8, 9: 1, 4-7"
+    CALLER | SIZE | ID | MESSAGE, // send, "4, 5, 6: 1, 3, 4-7, message"
+    CALLER | SIZE | ID | MESSAGE, // urgent, "4, 5, 6: 1, 3, 4-7, message"
+    CALLER | SIZE | ID | MESSAGE, // broadcast, "4, 5, 6: 1, 3, 4-7, message"
+    CALLER | OPTION | ID | TICKS, // receive, "7: 1, 2, 4-7, 8-11"
+    CALLER | ID, // pending, "3, 8, 9: 1, 4-7"
+    CALLER | ID, // flush, "3, 8, 9: 1, 4-7"
+    0, // tick, "10: none"
 ];
 
 // The row of an operation. Another operation may use no field.
-pub fn row_of(operation: usize) -> Row
-    ensures { λ r. ⌜ r ≡ flags (rowOf operation) ⌝ }
+pub fn row_of(operation: usize) -> u8
+    ensures { λ r. ⌜ r ≡ bitsOf (rowOf operation) ⌝ }
 {
     if operation < 11 {
         return ROWS[operation];
     }
-    ROWS[0]
+    0
 }

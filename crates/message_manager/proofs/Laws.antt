@@ -13,22 +13,22 @@ use Rattle.runs.specs.Replay.{answerRecord}
 use Rattle.message_manager.specs.Interface.{answeredInto}
 
 -- An answer record that is written from place 0 on fills a buffer of 16 bytes.
-pub filled : (lent r : List ℕ) (a : Answer) (first : ℕ) → length lent ≡ 16 → r ≡ answerRecord a first → spliced lent 0 r ≡ answerRecord a first
+pub filled : (lent r : List ℕ) (a : Answer) (firstByte : ℕ) → length lent ≡ 16 → r ≡ answerRecord a firstByte → spliced lent 0 r ≡ answerRecord a firstByte
 unfolding spliced answerBytes toLittleEndian
-filled lent r a first h e = ap (spliced lent 0) e ∙ ap (λ (l : List ℕ). answerRecord a first ++ l) (drop-of-length-le lent {i = 16} (omega arith))
+filled lent r a firstByte h e = ap (spliced lent 0) e ∙ ap (λ (l : List ℕ). answerRecord a firstByte ++ l) (drop-of-length-le lent {i = 16} (omega arith))
 
-module _ (lent : List ℕ) (t : Tables) (first : ℕ) where
+module _ (lent : List ℕ) (t : Tables) (firstByte : ℕ) where
   -- a buffer of another length: nothing is done
-  pub another-length : (o : Outcome Tables) → (length lent ≡ 16 → ⊥) → (record { status = 16; answer = lent; after = t }) ≡ answeredInto lent t first o
+  pub another-length : (o : Outcome Tables) → (length lent ≡ 16 → ⊥) → (record { status = 16; answer = lent; after = t }) ≡ answeredInto lent t firstByte o
   unfolding answeredInto
   another-length o h = rw (ne-eqb (length lent) 16 h)
 
   -- the call was done, its answer record is written and its status returned
   pub answered : {o : Outcome Tables} {a : Answer} {after : Tables} {status : ℕ} {written : List ℕ} → length lent ≡ 16
-      → (record { answer = a; after = after }) ≡ o → (written ≡ answerRecord a first) × (status ≡ a .status)
-      → (record { status = status; answer = written; after = after }) ≡ answeredInto lent t first o
+      → (record { answer = a; after = after }) ≡ o → (written ≡ answerRecord a firstByte) × (status ≡ a .status)
+      → (record { status = status; answer = written; after = after }) ≡ answeredInto lent t firstByte o
   unfolding answeredInto
   answered {after} h done (w, s) =
       (λ i. record { status = s i; answer = w i; after = after })
-      ∙ ap (λ (x : Outcome Tables). record { status = x .answer .status; answer = answerRecord (x .answer) first; after = x .after }) done
+      ∙ ap (λ (x : Outcome Tables). record { status = x .answer .status; answer = answerRecord (x .answer) firstByte; after = x .after }) done
       ∙ rw (eq-eqb (length lent) 16 h)

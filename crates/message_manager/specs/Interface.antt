@@ -22,10 +22,10 @@ abbrev pub answerWidth : ℕ
 answerWidth = 16
 
 -- The outcome of a call whose record would have the first byte given. A buffer of another length gets 16, and nothing is done.
-unfoldable pub answeredInto : (lent : List ℕ) → Tables → (first : ℕ) → Outcome Tables → Returned
-answeredInto lent t first o =
+unfoldable pub answeredInto : (lent : List ℕ) → Tables → (firstByte : ℕ) → Outcome Tables → Returned
+answeredInto lent t firstByte o =
     if eqb (length lent) answerWidth
-    then record { status = o .answer .status; answer = answerRecord (o .answer) first; after = o .after }
+    then record { status = o .answer .status; answer = answerRecord (o .answer) firstByte; after = o .after }
     else record { status = BAD-SHAPE; answer = lent; after = t }
 
 -- "0 operation (1 to 10 in the order create, ident, delete, send, urgent, broadcast, receive, pending, flush, tick)"

@@ -19,11 +19,11 @@ pub fn status_of(a: Answer) -> u32
 }
 
 // Writes the answer record of a call whose record would have this first byte. Returns the status.
-pub fn write_answer(buffer: &mut [u8], a: Answer, first: u8) -> u32
+pub fn write_answer(buffer: &mut [u8], a: Answer, firstByte: u8) -> u32
     requires { ⌜ length (now buffer) ≡ 16 ⌝ }
-    ensures { λ r. ⌜ (now (buffer .exit) ≡ answerRecord (answerOf a) first) × (r ≡ answerOf a .status) ⌝ }
+    ensures { λ r. ⌜ (now (buffer .exit) ≡ answerRecord (answerOf a) firstByte) × (r ≡ answerOf a .status) ⌝ }
 {
-    let r = answer_record(a, first);
+    let r = answer_record(a, firstByte);
     copy_into(buffer, 0, &r);
     status_of(a)
 }

@@ -1,2 +1,4 @@
+pub mod LogDemands
+pub mod ReplayedRuns
 pub mod Replays
 pub mod TableStatus

@@ -26,7 +26,7 @@ use Rattle.calllog.specs.CallLog.{recordWidth, operation, caller, option, size,
 use Rattle.calllog.specs.CallLog
 use Rattle.calllog.specs.declared.call.LogResult.{LogResult}
 use Rattle.calllog.specs.declared.call.LogResult.the-variants.{WellFormed, Malformed, End}
-use Rattle.runs.specs.Replay.{directiveOf, callOf, outcomeFor, replayRecord}
+use Rattle.runs.specs.Replay.{directiveOf, callOf, outcomeFor, replayFound, replayRecord}
 
 -- ---- Bytes, and the numbers in them
 
@@ -67,7 +67,7 @@ word i n r h s =
 
 -- ---- The numbers of a call are of 32 bits, and its message is of bytes
 
-abbrev InRange : List ℕ → LogResult → Type 0
+abbrev pub InRange : List ℕ → LogResult → Type 0
 InRange m (WellFormed c) = argumentsInRange (callOf c m) ≡ true
 InRange m Malformed = Unit {0}
 InRange m End = Unit {0}
@@ -91,7 +91,7 @@ call-in-range m op caller′ option′ size′ id′ ticks′ limit′ maxSize�
     (either m (eqb op 9) _ _ (rw (c, i))
     (either m (eqb op 10) _ Malformed refl tt)))))))))
 
-record-in-range : (r : List ℕ) → Slice r → InRange (drop 16 r) (readRecord r)
+pub record-in-range : (r : List ℕ) → Slice r → InRange (drop 16 r) (readRecord r)
 unfolding readRecord CallLog.callIn
 record-in-range r s =
     either (drop 16 r) (eqb (length r) recordWidth && keepsRow (rowOf (operation of r)) r) (CallLog.callIn r) Malformed
@@ -120,7 +120,7 @@ module _ (t : Tables) {n : ℕ} (e : n ≡ firstStatus (tableRefusals t)) where
       rw (after .bytes .lengths, after .isSound) z
 
   pub status-stays : (r : List ℕ) → Slice (t .queues) → Slice (t .pool) → Slice (t .tasks) → Slice r → n ≡ firstStatus (tableRefusals (replayRecord t r .after))
-  unfolding replayRecord outcomeFor
+  unfolding replayRecord replayFound outcomeFor
   status-stays r bq bp bw s = go (readRecord r) (record-in-range r s)
     where
       go : (f : LogResult) → InRange (drop 16 r) f → n ≡ firstStatus (tableRefusals (outcomeFor t f (drop 16 r) .after))

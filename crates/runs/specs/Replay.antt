@@ -1,7 +1,7 @@
 -- Document 01, "The call log": a log replayed over the tables, and what is written of it.
 use Rattle.ranks.specs.Prelude.{ℕ, _+_, _*_, _/_, Bool, true, false, List, [], _∷_, _++_, length, take, drop, leb}
 use Rattle.ranks.specs.Lists.{if_then_else_}
-use Rattle.ranks.specs.Table.{byte, records, spliced}
+use Rattle.ranks.specs.Table.{byte, slice, records, spliced}
 use Rattle.records.specs.Bytes.{Tables}
 use Rattle.records.specs.Status.{BAD-SHAPE}
 use Rattle.specification.specs.Answer.{Answer, Outcome, refuse}
@@ -39,21 +39,21 @@ outcomeFor t (WellFormed c) message = step t (callOf c message)
 outcomeFor t Malformed message = refuse t BAD-SHAPE
 outcomeFor t End message = refuse t BAD-SHAPE
 
--- the answer record of a record with the first byte given
-abbrev pub answerRecord : Answer → (first : ℕ) → List ℕ
-answerRecord a first = answerBytes (a .status) first (a .value) (a .woken)
+-- the answer record of a call with the first byte given
+abbrev pub answerRecord : Answer → (firstByte : ℕ) → List ℕ
+answerRecord a firstByte = answerBytes (a .status) firstByte (a .value) (a .woken)
 
 -- what is written of a log, and the tables after it
 pub record Replayed : Type 0 where
   pub answers : List ℕ
   pub after : Tables
 
-abbrev pub replayedAs : Outcome Tables → (first : ℕ) → Replayed
-replayedAs o first = record { answers = answerRecord (o .answer) first; after = o .after }
+-- one record of a log, or its short last part, of which the reader says this
+unfoldable pub replayFound : Tables → LogResult → List ℕ → Replayed
+replayFound t found r = let o = outcomeFor t found (drop 16 r) in record { answers = answerRecord (o .answer) (byte 0 r); after = o .after }
 
--- one record of a log, or its short last part
 unfoldable pub replayRecord : Tables → List ℕ → Replayed
-replayRecord t r = replayedAs (outcomeFor t (readRecord r) (drop 16 r)) (byte 0 r)
+replayRecord t r = replayFound t (readRecord r) r
 
 -- ---- A whole log
 
@@ -61,9 +61,9 @@ replayRecord t r = replayedAs (outcomeFor t (readRecord r) (drop 16 r)) (byte 0 
 unfoldable pub replayRecords : Tables → List (List ℕ) → Replayed
 replayRecords t [] = record { answers = []; after = t }
 replayRecords t (r ∷ rs) =
-    let first = replayRecord t r in
-    let rest = replayRecords (first .after) rs in
-    record { answers = first .answers ++ rest .answers; after = rest .after }
+    let one = replayRecord t r in
+    let rest = replayRecords (one .after) rs in
+    record { answers = one .answers ++ rest .answers; after = rest .after }
 
 -- how many records a log of `n` bytes has, a short last part counted
 unfoldable pub countOf : ℕ → ℕ
@@ -77,6 +77,10 @@ unfoldable pub replayed : Tables → (log : List ℕ) → Replayed
 replayed t log = replayRecords t (recordsOf log)
 
 -- ---- Into lent bytes
+
+-- what stands at a place of a log, its answer record from the place `to` of the lent bytes on
+unfoldable pub replayedAt : Tables → (log : List ℕ) (at : ℕ) (lent : List ℕ) (to : ℕ) → Replayed
+replayedAt t log at lent to = let r = replayRecord t (slice at recordWidth log) in record { answers = spliced lent to (r .answers); after = r .after }
 
 -- the answer records at the front of the lent bytes
 unfoldable pub replayedFront : Tables → (log lent : List ℕ) → Replayed

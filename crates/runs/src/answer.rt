@@ -6,7 +6,7 @@ ghost use Rattle.specification.specs.Step.{step};
 ghost use Rattle.manager.specs.Outcomes.{answerOf, tables, outcomeOf, tableRefusals};
 ghost use Rattle.runs.specs.Replay.{directiveOf, callOf, outcomeFor, answerRecord};
 use crate::perform::perform;
-use crate::perform::wide;
+use crate::perform::word_of;
 use calllog::answers::answer_bytes;
 use calllog::call::Call;
 use calllog::call::Directive;
@@ -55,7 +55,7 @@ fn answer_call(
             queues,
             pool,
             tasks,
-            wide(caller),
+            word_of(caller),
             directive,
             field,
             status,
@@ -84,7 +84,7 @@ pub fn answer(
     }
 }
 
-// The same on any tables. Only a call has them searched.
+// The same on any tables.
 pub fn answer_searching(
     queues: &mut [u8],
     pool: &mut [u8],
@@ -95,23 +95,17 @@ pub fn answer_searching(
     ensures { λ r. ⌜ outcomeOf r (tables (now (queues .exit)) (now (pool .exit)) (now (tasks .exit)))
         ≡ outcomeFor (tables (now (queues .entry)) (now (pool .entry)) (now (tasks .entry))) found (now (field .entry)) ⌝ }
 {
-    match found {
-        LogResult::WellFormed(logged) => {
-            let status = table_refusal(queues, pool, tasks);
-            answer_call(queues, pool, tasks, logged, field, status)
-        }
-        LogResult::Malformed => Answer::Refused(16),
-        LogResult::End => Answer::Refused(16),
-    }
+    let status = table_refusal(queues, pool, tasks);
+    answer(queues, pool, tasks, found, field, status)
 }
 
-// The answer record of a record with this first byte.
-pub fn answer_record(a: Answer, first: u8) -> [u8; 16]
-    ensures { λ r. ⌜ r ≡ answerRecord (answerOf a) first ⌝ }
+// The answer record of a call with this first byte.
+pub fn answer_record(a: Answer, firstByte: u8) -> [u8; 16]
+    ensures { λ r. ⌜ r ≡ answerRecord (answerOf a) firstByte ⌝ }
 {
     match a {
-        Answer::Successful(value, woken) => answer_bytes(0, first, value, woken),
-        Answer::Waiting => answer_bytes(14, first, 0, 0),
-        Answer::Refused(status) => answer_bytes(status, first, 0, 0),
+        Answer::Successful(value, woken) => answer_bytes(0, firstByte, value, woken),
+        Answer::Waiting => answer_bytes(14, firstByte, 0, 0),
+        Answer::Refused(status) => answer_bytes(status, firstByte, 0, 0),
     }
 }

@@ -14,8 +14,10 @@ use manager::msgqident::ident;
 use manager::msgqreceive::receive;
 use manager::msgqsend::send;
 use manager::msgqurgent::urgent;
+use records::bytes::wide;
 
-pub fn wide(b: u8) -> u32
+// A byte as a number of 32 bits.
+pub fn word_of(b: u8) -> u32
     ensures { λ r. ⌜ r ≡ b ⌝ }
 {
     b as u32
@@ -25,7 +27,7 @@ pub fn wide(b: u8) -> u32
 fn message_of(field: &[u8], n: u8) -> &[u8]
     ensures { λ r. ⌜ now r ≡ take n (now (field .entry)) ⌝ }
 {
-    let end = records::bytes::wide(n);
+    let end = wide(n);
     if field.len() < end {
         return field;
     }
@@ -57,9 +59,9 @@ pub fn perform(
             tasks,
             caller,
             name,
-            wide(limit),
-            wide(maxSize),
-            wide(attributes),
+            word_of(limit),
+            word_of(maxSize),
+            word_of(attributes),
         ),
         Directive::Ident { name, share } => ident(queues, pool, tasks, caller, name, share),
         Directive::Delete { id } => delete(queues, pool, tasks, caller, id),
@@ -73,7 +75,7 @@ pub fn perform(
             broadcast(queues, pool, tasks, caller, id, message_of(field, size))
         }
         Directive::Receive { id, option, ticks } => {
-            receive(queues, pool, tasks, caller, id, wide(option), ticks)
+            receive(queues, pool, tasks, caller, id, word_of(option), ticks)
         }
         Directive::Pending { id } => get_number_pending(queues, pool, tasks, caller, id),
         Directive::Flush { id } => flush(queues, pool, tasks, caller, id),

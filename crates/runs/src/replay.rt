@@ -1,11 +1,11 @@
 // A whole log replayed over the tables.
 ghost use mathlib.Core.Path.{_≡_};
-ghost use Prim.Native.Nat.{_*_, _≤_, _<_};
+ghost use Prim.Native.Nat.{_+_, _*_, _≤_, _<_};
 ghost use lib.ListN.{length, drop};
-ghost use Rattle.ranks.specs.Table.{byte};
 ghost use Rattle.specification.specs.Answer.{firstStatus};
 ghost use Rattle.manager.specs.Outcomes.{tables, tableRefusals};
-ghost use Rattle.runs.specs.Replay.{outcomeFor, replayedAs, countOf, replayedFront, replayedInto};
+ghost use Rattle.calllog.specs.CallLog.{placeAfter};
+ghost use Rattle.runs.specs.Replay.{replayFound, replayedAt, countOf, replayedFront, replayedInto};
 use crate::answer::answer;
 use crate::answer::answer_record;
 use calllog::call::LogResult;
@@ -35,10 +35,35 @@ fn replay_record(
 ) -> [u8; 16]
     requires { ⌜ (0 < length (now part)) × (status ≡ firstStatus (tableRefusals (tables (now queues) (now pool) (now tasks)))) ⌝ }
     ensures { λ r. ⌜ (record { answers = r; after = tables (now (queues .exit)) (now (pool .exit)) (now (tasks .exit)) })
-        ≡ replayedAs (outcomeFor (tables (now (queues .entry)) (now (pool .entry)) (now (tasks .entry))) found (drop 16 (now (part .entry)))) (byte 0 (now (part .entry))) ⌝ }
+        ≡ replayFound (tables (now (queues .entry)) (now (pool .entry)) (now (tasks .entry))) found (now (part .entry)) ⌝ }
 {
     let a = answer(queues, pool, tasks, found, message_field(part), status);
     answer_record(a, part[0])
+}
+
+// What stands at the place that the reader has reached, on tables whose own tests gave this status: its answer record goes to place `to` of the lent
+// bytes. The place that the reader moves on to.
+fn replay_at(
+    queues: &mut [u8],
+    pool: &mut [u8],
+    tasks: &mut [u8],
+    log: &[u8],
+    at: usize,
+    status: u8,
+    answers: &mut [u8],
+    to: usize,
+) -> usize
+    requires { ⌜ ((at < length (now log)) × (to + 16 ≤ length (now answers))) × (status ≡ firstStatus (tableRefusals (tables (now queues) (now pool) (now tasks)))) ⌝ }
+    ensures { λ r. ⌜ (r ≡ placeAfter (now (log .entry)) at)
+        × ((record { answers = now (answers .exit); after = tables (now (queues .exit)) (now (pool .exit)) (now (tasks .exit)) })
+        ≡ replayedAt (tables (now (queues .entry)) (now (pool .entry)) (now (tasks .entry))) (now (log .entry)) at (now (answers .entry)) to) ⌝ }
+{
+    let reading = read_at(log, at);
+    let found = reading.result;
+    let next = reading.next;
+    let a = replay_record(queues, pool, tasks, found, &log[at..next], status);
+    copy_into(answers, to, &a);
+    next
 }
 
 // How many records a log of n bytes has, a short last part counted.
@@ -59,17 +84,11 @@ fn replay_all(queues: &mut [u8], pool: &mut [u8], tasks: &mut [u8], log: &[u8], 
         ≡ replayedFront (tables (now (queues .entry)) (now (pool .entry)) (now (tasks .entry))) (now (log .entry)) (now (answers .entry)) ⌝ }
 {
     let status = table_refusal(queues, pool, tasks);
-    let n = record_count(log.len());
-    let mut i = 0;
-    while i < n {
-        let at = i * 136;
-        let step = read_at(log, at);
-        let next = step.next;
-        let found = step.result;
-        let a = replay_record(queues, pool, tasks, found, &log[at..next], status);
-        let to = i * 16;
-        copy_into(answers, to, &a);
-        i += 1;
+    let mut at = 0;
+    let mut to = 0;
+    while at < log.len() {
+        at = replay_at(queues, pool, tasks, log, at, status, answers, to);
+        to += 16;
     }
 }
 

@@ -1,17 +1,16 @@
 -- `calllog::rows::row_of` meets its contract. Assumes nothing.
 use borrow.Author.Needs.{needs}
-use Rattle.calllog.specs.CallLog.{rows, names, flags}
+use Rattle.calllog.specs.CallLog.{rows, names, bitsIn, bitsOf}
 use Rattle.calllog.proofs.Laws.{row-at, row-beyond}
 use Rattle.calllog.proofs.rows.row_of.Statement.{statement}
 use Rattle.calllog.proofs.rows.row_of.Tie as tie
 
 returns : tie.Need-returns
-unfolding rows names flags
-returns c = row-at (c .before .before .args .operation)
+unfolding rows names bitsIn bitsOf
+returns c = row-at (c .before .args .operation)
 
 returns-2 : tie.Need-returns-2
-unfolding names flags
-returns-2 c = row-beyond (c .before .before .args .operation) (search needs)
+returns-2 c = row-beyond (c .before .args .operation) (search needs)
 
 pub row-of-spec : {M : Type 1} → statement M
-row-of-spec = tie.close (tie.spec (search needs) (search needs) returns (search needs) returns-2)
+row-of-spec = tie.close (tie.spec (search needs) returns returns-2)

@@ -10,7 +10,7 @@ returns : tie.Need-returns
 returns c =
     let s = c .before .before .before .before .before .before .before .before in
     let a = s .args in
-    let written = filled (a .buffer .now) _ (answerOf (a .a)) (a .first) (s .pre) (c .before .before .before .before .before .before .answer-record .ensures) in
+    let written = filled (a .buffer .now) _ (answerOf (a .a)) (a .firstByte) (s .pre) (c .before .before .before .before .before .before .answer-record .ensures) in
     (c .before .before .before .copy-into .ensures ∙ written, c .status-of .ensures)
 
 pub write-answer-spec : {M : Type 1} → statement M

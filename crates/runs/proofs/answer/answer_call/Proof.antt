@@ -13,7 +13,7 @@ tick-after-requires c κs = c .before .before .before .before .before .before .b
 
 returns : tie.Need-returns
 unfolding callOf
-returns c = c .before .before .before .before .before .before .answer-directive .ensures ∙ simp (c .before .before .before .before .before .before .before .wide .ensures, c .before .before .before .before .before .before .before .before .before .before .before .before .logged .given .1)
+returns c = c .before .before .before .before .before .before .answer-directive .ensures ∙ simp (c .before .before .before .before .before .before .before .word-of .ensures, c .before .before .before .before .before .before .before .before .before .before .before .before .logged .given .1)
 
 returns-2 : tie.Need-returns-2
 unfolding callOf

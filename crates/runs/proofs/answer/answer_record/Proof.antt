@@ -9,15 +9,15 @@ use Rattle.runs.proofs.answer.answer_record.Tie as tie
 
 returns : tie.Need-returns
 unfolding answerOf
-returns c = c .answer-bytes .ensures ∙ sym (ap (λ (x : Answer). answerRecord (answerOf x) (c .before .before .before .before .args .first)) (c .before .before .a .given .1))
+returns c = c .answer-bytes .ensures ∙ sym (ap (λ (x : Answer). answerRecord (answerOf x) (c .before .before .before .before .args .firstByte)) (c .before .before .a .given .1))
 
 returns-2 : tie.Need-returns-2
 unfolding answerOf
-returns-2 c = c .answer-bytes2 .ensures ∙ sym (ap (λ (x : Answer). answerRecord (answerOf x) (c .before .before .before .args .first)) (c .before .enum-told .given .1))
+returns-2 c = c .answer-bytes2 .ensures ∙ sym (ap (λ (x : Answer). answerRecord (answerOf x) (c .before .before .before .args .firstByte)) (c .before .enum-told .given .1))
 
 returns-3 : tie.Need-returns-3
 unfolding answerOf
-returns-3 c = c .answer-bytes3 .ensures ∙ sym (ap (λ (x : Answer). answerRecord (answerOf x) (c .before .before .before .before .args .first)) (c .before .before .a2 .given .1))
+returns-3 c = c .answer-bytes3 .ensures ∙ sym (ap (λ (x : Answer). answerRecord (answerOf x) (c .before .before .before .before .args .firstByte)) (c .before .before .a2 .given .1))
 
 pub answer-record-spec : {M : Type 1} → statement M
 answer-record-spec = tie.close (tie.spec (search needs) (search needs) (search needs) (search needs) (search needs) (search needs) returns returns-2 returns-3)

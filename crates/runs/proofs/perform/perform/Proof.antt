@@ -7,7 +7,7 @@ use Rattle.runs.proofs.perform.perform.Tie as tie
 
 returns : tie.Need-returns
 unfolding directiveOf
-returns c = c .before .before .create .ensures ∙ simp (c .before .before .before .before .before .wide .ensures, c .before .before .before .before .wide2 .ensures, c .before .before .before .wide3 .ensures, c .before .before .before .before .before .before .before .before .before .before .directive .given .1)
+returns c = c .before .before .create .ensures ∙ simp (c .before .before .before .before .before .word-of .ensures, c .before .before .before .before .word-of2 .ensures, c .before .before .before .word-of3 .ensures, c .before .before .before .before .before .before .before .before .before .before .directive .given .1)
 
 returns-2 : tie.Need-returns-2
 unfolding directiveOf
@@ -31,7 +31,7 @@ returns-6 c = c .before .before .before .before .broadcast .ensures ∙ simp (c 
 
 returns-7 : tie.Need-returns-7
 unfolding directiveOf
-returns-7 c = c .before .before .before .before .before .before .receive .ensures ∙ simp (c .before .before .before .before .before .before .before .wide4 .ensures, c .before .before .before .before .before .before .before .before .before .before .before .before .directive7 .given .1)
+returns-7 c = c .before .before .before .before .before .before .receive .ensures ∙ simp (c .before .before .before .before .before .before .before .word-of4 .ensures, c .before .before .before .before .before .before .before .before .before .before .before .before .directive7 .given .1)
 
 returns-8 : tie.Need-returns-8
 unfolding directiveOf

@@ -1,4 +1,4 @@
--- `calllog::reader::moved` meets its contract. Assumes nothing.
+-- `calllog::reader::advanced` meets its contract. Assumes nothing.
 -- A walk of its MIR, by hand. The struct is taken apart, `after` is called on the slice and the number, and a struct is made anew of the slice and
 -- the number that `after` returns.
 -- What the struct owns is kept for the exit (`apart` in `ReaderParts`).
@@ -49,12 +49,12 @@ use Rattle.calllog.proofs.decode.after as after
 use Rattle.calllog.proofs.decode.after.Symbol as after-def
 use Rattle.calllog.proofs.decode.after.Symbol.{name as #calllog·decode·after}
 use Rattle.calllog.proofs.decode.after.Met as after-thm
-use Rattle.calllog.proofs.reader.moved.Key.{name as #calllog·reader·moved}
-use Rattle.calllog.proofs.reader.moved as moved
-use Rattle.calllog.proofs.reader.moved.Statement as stated
-use Rattle.calllog.proofs.reader.moved.Code as code
+use Rattle.calllog.proofs.reader.advanced.Key.{name as #calllog·reader·advanced}
+use Rattle.calllog.proofs.reader.advanced as advanced
+use Rattle.calllog.proofs.reader.advanced.Statement as stated
+use Rattle.calllog.proofs.reader.advanced.Code as code
 
-abbrev stayed : Stays (moved.ended .signature .params) (moved.ended .kept)
+abbrev stayed : Stays (advanced.ended .signature .params) (advanced.ended .kept)
 stayed = (stay-none B yes, tt)
 
 module _ {M : Type 1} (𝓤 : URA M) (H : Heap 𝓤) (A : Atoms 𝓤) (mem : Memory → SProp 𝓤) (run : Routine → Fun 𝓤) where
@@ -67,7 +67,7 @@ module _ {M : Type 1} (𝓤 : URA M) (H : Heap 𝓤) (A : Atoms 𝓤) (W : Given
   found = placeAfter (now (d .log)) (d .at)
 
   abbrev Post : Val → SProp 𝓤
-  Post = walkOf 𝓤 H A moved.ended stayed (moved.clauses 𝓤 H A mem run) .post (((κ, tt), (q, tt), tt, (d, tt), (mach d ∷ [], tt)), tt)
+  Post = walkOf 𝓤 H A advanced.ended stayed (advanced.clauses 𝓤 H A mem run) .post (((κ, tt), (q, tt), tt, (d, tt), (mach d ∷ [], tt)), tt)
 
   abbrev to : After 𝓤 H A mem run .Ghost
   to = (((κ, tt), (q, tt), tt, (d .log, (d .at, tt)), passed κ d), tt)
@@ -86,15 +86,15 @@ module _ {M : Type 1} (𝓤 : URA M) (H : Heap 𝓤) (A : Atoms 𝓤) (W : Given
   exits : (r : ℕ) → r ≡ found → r < 2 ^ 64 → ent 𝓤 (⋆ 𝓤 H A ((‵ (flft κ q) ⊛ ‵ ftrue) ∷ ‵ (Own κ d) ∷ [])) (Post (T′.lowered (d′ r)))
   exits r e ok =
       qed W ((‵ (flft κ q) ⊛ ‵ ftrue) ∷ ‵ (Own κ d) ∷ []) ∵
-      suffices ! _ (ends-at 𝓤 H A moved.ended stayed (moved.clauses 𝓤 H A mem run) W (((κ, tt), (q, tt), tt, (d, tt), (mach d ∷ [], tt)), tt) (T′.lowered (d′ r)) (d′ r) (tt, tt) (tt, tt)) $ says ! (ap d′ e) $
+      suffices ! _ (ends-at 𝓤 H A advanced.ended stayed (advanced.clauses 𝓤 H A mem run) W (((κ, tt), (q, tt), tt, (d, tt), (mach d ∷ [], tt)), tt) (T′.lowered (d′ r)) (d′ r) (tt, tt) (tt, tt)) $ says ! (ap d′ e) $
       frame ! $ use1 W (‵ (Own κ d) ⊛ ‵ (Own κ d)) (LL.copy (D κ) (T′.the-copy (namedLft 1 0 tt (κ, tt))) 𝓤 H A W .twice d (mach d ∷ [])) $ split ! $ nothing ! $ move ! (1 ∷ 0 ∷ []) $ fjoin ! $ frame ! $
       -- [what the struct owns]: the number's facts take the place of at's
       owned ! usize (Is usize) (uint-makes 𝓤 H A W w64) r _ (refl, ok) $ move ! (1 ∷ 0 ∷ []) $ by ! (own-put 𝓤 H A W (D κ) (L κ) 1 (vd κ d) r (mach d))
 
   module _ (C : Calls 𝓤 H) (Λ : Loops 𝓤 H) (fm : FmC 𝓤 H (W .laws) C) (known : Triple 𝓤 (C #calllog·decode·after) (After 𝓤 H A mem run)) where
-    walk : Holds (hasTy (T′.mir (named 0)) (mach d)) × WT (mach d) → ent 𝓤 (onEntry 𝓤 H A moved.signature (κ, tt) (q, tt) (d, tt) (mach d ∷ [], tt)) (WpFn 𝓤 H C Λ code.function (mach d ∷ []) Post)
+    walk : Holds (hasTy (T′.mir (named 0)) (mach d)) × WT (mach d) → ent 𝓤 (onEntry 𝓤 H A advanced.signature (κ, tt) (q, tt) (d, tt) (mach d ∷ [], tt)) (WpFn 𝓤 H C Λ code.function (mach d ∷ []) Post)
     walk wt =
-        qed W (raw (onEntry 𝓤 H A moved.signature (κ, tt) (q, tt) (d, tt) (mach d ∷ [], tt)) ∷ []) ∵ enter ! C Λ code.function (mach d ∷ []) _ $
+        qed W (raw (onEntry 𝓤 H A advanced.signature (κ, tt) (q, tt) (d, tt) (mach d ∷ [], tt)) ∷ []) ∵ enter ! C Λ code.function (mach d ∷ []) _ $
         alloc1 ! (λ l₀. alloc1 ! (λ l₁. alloc1 ! (λ l₂. alloc1 ! (λ l₃. alloc1 ! (λ l₄. alloc1 ! (λ l₅. alloc0 ! $ params1 ! $ pass1 ! (init ! 8 refl wt) $ pass0 ! $
         assigns ! (of-opd ! (load ! (from ! (fld ! refl (stop !))) (look-in ! 8 (sub ! 0 refl (whole !))))) (from ! (stop !)) (init ! 4 refl (tt, wt .1 .0)) $
         assigns ! (of-opd ! (load ! (from ! (fld ! refl (stop !))) (look-in ! 8 (sub ! 1 refl (whole !))))) (from ! (stop !)) (init ! 2 refl (tt, wt .1 .1 .0)) $
@@ -111,21 +111,21 @@ module _ {M : Type 1} (𝓤 : URA M) (H : Heap 𝓤) (A : Atoms 𝓤) (W : Given
         move ! (13 ∷ 14 ∷ []) $ free1 ! $ move ! (11 ∷ 12 ∷ []) $ free1 ! $ move ! (9 ∷ 10 ∷ []) $ free1 ! $ move ! (7 ∷ 8 ∷ []) $ free1 ! $ move ! (5 ∷ 6 ∷ []) $ free1 ! $ move ! (3 ∷ 4 ∷ []) $ free1 ! $ free0 ! $ keep ! (1 ∷ 2 ∷ []) $ by ! (exits r e (is .1))))))))))))
 
 module _ {M : Type 1} (𝓤 : URA M) (H : Heap 𝓤) (A : Atoms 𝓤) (W : Given 𝓤 H A) (mem : Memory → SProp 𝓤) (run : Routine → Fun 𝓤) where
-  moved-walks : (C : Calls 𝓤 H) (Λ : Loops 𝓤 H) → FmC 𝓤 H (W .laws) C → Triple 𝓤 (C #calllog·decode·after) (After 𝓤 H A mem run)
-      → Walks 𝓤 H A moved.ended stayed (WpFn 𝓤 H C Λ code.function) (moved.clauses 𝓤 H A mem run)
-  moved-walks C Λ fm known = walked 𝓤 H A moved.ended stayed (moved.clauses 𝓤 H A mem run) (WpFn 𝓤 H C Λ code.function) (λ κs. (LL.vals (T.the-type (namedLft 1 0 tt κs)) (T′.the-laws (namedLft 1 0 tt κs)), tt)) (λ κs. (LL.tells (T.the-type (namedLft 1 0 tt κs)) (T′.the-laws (namedLft 1 0 tt κs)), tt))
+  advanced-walks : (C : Calls 𝓤 H) (Λ : Loops 𝓤 H) → FmC 𝓤 H (W .laws) C → Triple 𝓤 (C #calllog·decode·after) (After 𝓤 H A mem run)
+      → Walks 𝓤 H A advanced.ended stayed (WpFn 𝓤 H C Λ code.function) (advanced.clauses 𝓤 H A mem run)
+  advanced-walks C Λ fm known = walked 𝓤 H A advanced.ended stayed (advanced.clauses 𝓤 H A mem run) (WpFn 𝓤 H C Λ code.function) (λ κs. (LL.vals (T.the-type (namedLft 1 0 tt κs)) (T′.the-laws (namedLft 1 0 tt κs)), tt)) (λ κs. (LL.tells (T.the-type (namedLft 1 0 tt κs)) (T′.the-laws (namedLft 1 0 tt κs)), tt))
       (λ κs qs bounds a g are. via 𝓤 _ (fst∗ 𝓤 _ (emp 𝓤)) (walk 𝓤 H A W mem run (κs .0) (qs .0) (a .0) C Λ fm known (LL.lawful (T.the-type (namedLft 1 0 tt κs)) (T′.the-laws (namedLft 1 0 tt κs)) 𝓤 H A W .typed (a .0) _ (are .0) .0)))
 
-moved-meets : {M : Type 1} (𝓤 : URA M) (H : Heap 𝓤) (A : Atoms 𝓤) (W : Given 𝓤 H A) (mem : Memory → SProp 𝓤) (run : Routine → Fun 𝓤) (𝓣 : Tables 𝓤 H)
+advanced-meets : {M : Type 1} (𝓤 : URA M) (H : Heap 𝓤) (A : Atoms 𝓤) (W : Given 𝓤 H A) (mem : Memory → SProp 𝓤) (run : Routine → Fun 𝓤) (𝓣 : Tables 𝓤 H)
     → Triple 𝓤 (𝓣 .C #calllog·decode·after) (After 𝓤 H A mem run)
-    → Meets 𝓤 H A moved.signature (WpFn 𝓤 H (𝓣 .C) (𝓣 .Λ) code.function) (moved.spec 𝓤 H A mem run)
-moved-meets 𝓤 H A W mem run 𝓣 known-after = walk-meets 𝓤 H A moved.ended stayed W (goes-none 𝓤 H A W 1 B yes (λ κs x f. refl), tt) (moved.clauses 𝓤 H A mem run) (WpFn 𝓤 H (𝓣 .C) (𝓣 .Λ) code.function) (WpFn-mono 𝓤 H (W .laws) 𝓣 code.function)
-    (moved-walks 𝓤 H A W mem run (𝓣 .C) (𝓣 .Λ) (fmOf 𝓤 H (W .laws) 𝓣) known-after)
+    → Meets 𝓤 H A advanced.signature (WpFn 𝓤 H (𝓣 .C) (𝓣 .Λ) code.function) (advanced.spec 𝓤 H A mem run)
+advanced-meets 𝓤 H A W mem run 𝓣 known-after = walk-meets 𝓤 H A advanced.ended stayed W (goes-none 𝓤 H A W 1 B yes (λ κs x f. refl), tt) (advanced.clauses 𝓤 H A mem run) (WpFn 𝓤 H (𝓣 .C) (𝓣 .Λ) code.function) (WpFn-mono 𝓤 H (W .laws) 𝓣 code.function)
+    (advanced-walks 𝓤 H A W mem run (𝓣 .C) (𝓣 .Λ) (fmOf 𝓤 H (W .laws) 𝓣) known-after)
 
-pub moved-spec : {M : Type 1} → stated.statement M
+pub advanced-spec : {M : Type 1} → stated.statement M
 unfolding code.routine tablesOf
-moved-spec 𝓤 H 𝓜 𝓖 𝓡 =
-    entered 𝓤 H (tripleOf 𝓤 H (𝓖 .A) moved.signature (moved.spec 𝓤 H (𝓖 .A) (𝓜 .mem) (𝓡 .run)))
-    (tables 𝓤 H 𝓜 𝓡 code.env .C) (tables 𝓤 H 𝓜 𝓡 code.env .Λ) #calllog·reader·moved code.function (code.unfolded 𝓤 H 𝓜 𝓡)
-    (moved-meets 𝓤 H (𝓖 .A) (givenOf 𝓤 H 𝓜 𝓖) (𝓜 .mem) (𝓡 .run) (tablesOf 𝓤 H 𝓜 (tables 𝓤 H 𝓜 𝓡 code.env))
+advanced-spec 𝓤 H 𝓜 𝓖 𝓡 =
+    entered 𝓤 H (tripleOf 𝓤 H (𝓖 .A) advanced.signature (advanced.spec 𝓤 H (𝓖 .A) (𝓜 .mem) (𝓡 .run)))
+    (tables 𝓤 H 𝓜 𝓡 code.env .C) (tables 𝓤 H 𝓜 𝓡 code.env .Λ) #calllog·reader·advanced code.function (code.unfolded 𝓤 H 𝓜 𝓡)
+    (advanced-meets 𝓤 H (𝓖 .A) (givenOf 𝓤 H 𝓜 𝓖) (𝓜 .mem) (𝓡 .run) (tablesOf 𝓤 H 𝓜 (tables 𝓤 H 𝓜 𝓡 code.env))
     (cited 𝓤 H (After 𝓤 H (𝓖 .A) (𝓜 .mem) (𝓡 .run)) 𝓜 𝓡 code.env #calllog·decode·after after-def.routine code.calls-calllog·decode·after (after-thm.met 𝓤 H 𝓜 𝓖 𝓡)))

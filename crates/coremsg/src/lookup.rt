@@ -5,12 +5,14 @@ ghost use mathlib.Core.List.{[], _∷_};
 ghost use Prim.Native.Nat.{_-_, _<_};
 ghost use Rattle.records.specs.Layout.{idOf, slotOf};
 ghost use Rattle.records.specs.Records.{hasPriority, isOpen, sizeAllowed};
-ghost use Rattle.records.specs.Status.{INVALID-ID, ILLEGAL-ON-REMOTE-OBJECT};
+ghost use Rattle.records.specs.Status.{INVALID-ID, ILLEGAL-ON-REMOTE-OBJECT, verdictStatus};
 ghost use Rattle.specification.specs.Answer.{_⇒_, firstStatus};
 ghost use Rattle.specification.specs.Lookup.{usableQueue, isForeign};
 use records::queue::QueueRecord;
 use records::shares::share_of_slot;
 use records::shares::share_of_task;
+use records::status::RefusalStatus;
+use records::status::Verdict;
 
 pub fn is_open(q: QueueRecord) -> bool
     ensures { λ r. ⌜ r ≡ isOpen q ⌝ }
@@ -35,18 +37,18 @@ pub fn is_foreign(caller: usize, slot: usize) -> bool
     share_of_slot(slot) != share_of_task(caller)
 }
 
-// "2, 12": the status of the first refusal of a call that only the queue's own share may make, or 0.
-pub fn owner_refusal(q: QueueRecord, caller: usize, id: u32) -> u8
+// "2, 12": the first refusal of a call that only the queue's own share may make.
+pub fn owner_refusal(q: QueueRecord, caller: usize, id: u32) -> Verdict
     requires { ⌜ caller < 32 ⌝ }
-    ensures { λ r. ⌜ r ≡ firstStatus ((not (usableQueue q caller id) ⇒ INVALID-ID) ∷ (isForeign caller (slotOf id) ⇒ ILLEGAL-ON-REMOTE-OBJECT) ∷ []) ⌝ }
+    ensures { λ r. ⌜ verdictStatus r ≡ firstStatus ((not (usableQueue q caller id) ⇒ INVALID-ID) ∷ (isForeign caller (slotOf id) ⇒ ILLEGAL-ON-REMOTE-OBJECT) ∷ []) ⌝ }
 {
     if !usable(q, caller, id) {
-        return 2;
+        return Verdict::Refused(RefusalStatus::InvalidId);
     }
     if is_foreign(caller, (id % 16) as usize) {
-        return 12;
+        return Verdict::Refused(RefusalStatus::IllegalOnRemoteObject);
     }
-    0
+    Verdict::Passed
 }
 
 // "3 (size 0 or above max)"

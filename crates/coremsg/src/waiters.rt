@@ -8,11 +8,13 @@ ghost use Rattle.ranks.specs.Steps.{recordAt, Room};
 ghost use Rattle.ranks.specs.Table.{slice, records};
 ghost use Rattle.records.specs.Bytes.{decodeTasks, decodeTask};
 ghost use Rattle.records.specs.Changes.{changeAt, readyWith, withMessage, waitingAt, insertTask, takeOutTask};
+ghost use Rattle.records.specs.Status.{TIMEOUT};
 ghost use Rattle.specification.specs.Lookup.{waitersOf, leaveIfIn, withoutWaiters};
 use crate::masks::with_bit;
 use ranks::first;
 use ranks::insert;
 use ranks::take_out;
+use records::status::TIMEOUT;
 use records::task::deliver;
 use records::task::read_head;
 use records::task::write_head;
@@ -112,10 +114,10 @@ pub fn deliver_first(tasks: &mut [u8], t: usize, slot: usize, message: &[u8])
 // Task t leaves the queue of the slot, where it stands at the rank, with status TIMEOUT.
 pub fn time_out(tasks: &mut [u8], t: usize, slot: u8, rank: u8)
     requires { ⌜ (t < 32) × ((slot < 16) × (length (now tasks) ≡ 4352)) ⌝ }
-    ensures { λ _. ⌜ decodeTasks (now (tasks .exit)) ≡ takeOutTask t slot rank (readyWith 7) (decodeTasks (now (tasks .entry))) ⌝ }
+    ensures { λ _. ⌜ decodeTasks (now (tasks .exit)) ≡ takeOutTask t slot rank (readyWith TIMEOUT) (decodeTasks (now (tasks .entry))) ⌝ }
 {
     ranks::take_out(tasks, 136, 1, 32, t, slot, rank);
-    make_ready(tasks, t, 7);
+    make_ready(tasks, t, TIMEOUT);
 }
 
 // Task t waits at the rank of the queue in the slot; those at that rank or behind it move back.

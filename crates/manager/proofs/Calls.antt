@@ -9,8 +9,10 @@ use Rattle.ranks.specs.Lists.{allTrue}
 use Rattle.ranks.specs.Table.{slice}
 use Rattle.records.specs.Records.{Task}
 use Rattle.records.specs.Bytes.{Tables, decodeTask, decode, rightLengths}
-use Rattle.records.specs.Status.{BAD-CALLER}
+use Rattle.records.specs.Status.{BAD-CALLER, statusNumber}
+use Rattle.records.specs.declared.status.RefusalStatus.{RefusalStatus}
 use Rattle.records.proofs.Access.{task-at}
+use Rattle.records.proofs.Statuses.{not-zero}
 use Rattle.specification.specs.Answer.{Outcome, Refusal, refuseIfAny, firstStatus, _⇒_}
 use Rattle.specification.specs.Call.{Directive, call, tick}
 use Rattle.specification.specs.Sound.{sound}
@@ -54,11 +56,11 @@ module _ (t : Tables) (caller : ℕ) where
     unfolding refusals commonRefusals
     both-lists = refl
 
-    pub refused-call : (n : ℕ) → First n → (n ≡ 0 → ⊥) → outcomeOf (Refused n) t ≡ step t (call caller directive)
+    pub refused-call : (s : RefusalStatus) → First (statusNumber s) → outcomeOf (Refused s) t ≡ step t (call caller directive)
     unfolding step refusals commonRefusals
-    refused-call n e ne =
-        refused t _ (callRefusals t caller ++ ownRefusals (decode t) (call caller directive)) n
-        (e ∙ first-of-both (callRefusals t caller) (ownRefusals (decode t) (call caller directive)) (λ z. ne (e ∙ z))) ne
+    refused-call s e =
+        refused t _ (callRefusals t caller ++ ownRefusals (decode t) (call caller directive)) s
+        (e ∙ first-of-both (callRefusals t caller) (ownRefusals (decode t) (call caller directive)) (λ z. not-zero s (e ∙ z)))
 
   module _ (passed : First 0) where
     none-of-them : None (callRefusals t caller)
@@ -74,18 +76,18 @@ module _ (t : Tables) (caller : ℕ) where
 
 -- ---- The tests of the tables
 
-module _ (t : Tables) {n : ℕ} (e : n ≡ firstStatus (tableRefusals t)) where
-  pub table-refused : (caller : ℕ) → (n ≡ 0 → ⊥) → n ≡ firstStatus (callRefusals t caller)
-  table-refused caller ne = e ∙ first-of-both (tableRefusals t) ((badCaller (decode t) caller ⇒ BAD-CALLER) ∷ []) (λ z. ne (e ∙ z))
+pub table-passed : (t : Tables) → 0 ≡ firstStatus (tableRefusals t) → (rightLengths t ≡ true) × (sound (decode t) ≡ true)
+unfolding allTrue
+table-passed t e = let none = none-holds (tableRefusals t) refl e in (not-false _ (none .0), not-false _ (none .1 .0))
 
-  pub table-passed : n ≡ 0 → (rightLengths t ≡ true) × (sound (decode t) ≡ true)
-  unfolding allTrue
-  table-passed z = let none = none-holds (tableRefusals t) refl (sym z ∙ e) in (not-false _ (none .0), not-false _ (none .1 .0))
+module _ (t : Tables) (s : RefusalStatus) (e : statusNumber s ≡ firstStatus (tableRefusals t)) where
+  pub table-refused : (caller : ℕ) → statusNumber s ≡ firstStatus (callRefusals t caller)
+  table-refused caller = e ∙ first-of-both (tableRefusals t) ((badCaller (decode t) caller ⇒ BAD-CALLER) ∷ []) (λ z. not-zero s (e ∙ z))
 
   -- "A tick has no caller."
-  pub tick-refused : (n ≡ 0 → ⊥) → outcomeOf (Refused n) t ≡ step t tick
+  pub tick-refused : outcomeOf (Refused s) t ≡ step t tick
   unfolding step refusals commonRefusals ownRefusals
-  tick-refused ne = refused t _ (tableRefusals t) n e ne
+  tick-refused = refused t _ (tableRefusals t) s e
 
 pub tick-accepted : (t : Tables) → rightLengths t ≡ true → sound (decode t) ≡ true → encoded (effect (decode t) tick) ≡ step t tick
 unfolding step refusals commonRefusals ownRefusals refuseIfAny

@@ -1,6 +1,5 @@
 -- Create by its cases, as the code goes through them. Assumes nothing.
 use Prim.Native.Nat.{ℕ, suc, _+_, _*_, _≤_, _<_}
-use native.Mathlib.Numerals.{add-one}
 use mathlib.Core.Path.{_≡_, refl, sym, ap, _∙_, subst}
 use mathlib.Core.Bool.{Bool, true, false, _&&_, not}
 use mathlib.Core.List.{List, [], _∷_}
@@ -15,6 +14,8 @@ use Rattle.records.specs.Records.{Queue, State, queueAt, freeQueue}
 use Rattle.records.specs.Layout.{idOf}
 use Rattle.records.specs.Bytes.{Tables, decodeQueue, decodeQueues, decode, encode}
 use Rattle.records.specs.Changes.{atIndex}
+use Rattle.records.specs.Status.{statusNumber}
+use Rattle.records.specs.declared.status.RefusalStatus.{RefusalStatus}
 use Rattle.records.proofs.Access.{queue-at}
 use Rattle.specification.specs.Create.{isFreeSlot, freeSlot, refusals, newQueue}
 use Rattle.specification.specs.Sound.{soundQueue, limits, sound}
@@ -65,8 +66,8 @@ module _ (t : Tables) (caller name limit maxSize attributes share : ℕ) (own : 
   unfolding directiveRefusals refusals freeSlot limits decode
   same-refusals = ap (λ (p : ℕ). refusals (onlyQueues (t .queues)) p name limit maxSize attributes) own
 
-  pub refused-create : (n : ℕ) → n ≡ firstStatus code-refusals → (n ≡ 0 → ⊥) → Outcome-is (Refused n) t
-  refused-create n e ne = refused t _ _ n (e ∙ ap firstStatus same-refusals) ne
+  pub refused-create : (s : RefusalStatus) → statusNumber s ≡ firstStatus code-refusals → Outcome-is (Refused s) t
+  refused-create s e = refused t _ _ s (e ∙ ap firstStatus same-refusals)
 
   module _ (passed : 0 ≡ firstStatus code-refusals) (slot : ℕ)
       (found : slot ≡ firstTrue (mapWithIndex (isFreeSlot share) (decodeQueues (t .queues)))) where
@@ -93,14 +94,12 @@ module _ (t : Tables) (caller name limit maxSize attributes share : ℕ) (own : 
         search-found decodeQueue (freeQueue 0) 16 16 (isFreeSlot share) (t .queues) slot (in-range .3) found in
         ltb-true (before .generation) 65535 (holds (eqb (before .live) 0 ∷ eqb (shareOfSlot slot) share ∷ ltb (before .generation) 65535 ∷ []) free .1 .1 .0)
 
-    abbrev made : (ℕ → ℕ) → List Queue
-    made next = mapWithIndex (atIndex slot (λ q. newQueue (next (q .generation)) name limit maxSize attributes)) (decodeQueues (t .queues))
-
     slot-is : slot ≡ freeSlot (decode t) (shareOfTask caller)
     unfolding freeSlot decode
     slot-is = found ∙ ap (λ (p : ℕ). firstTrue (mapWithIndex (isFreeSlot p) (decodeQueues (t .queues)))) own
 
-    pub created : (r : CodeAnswer) (queues′ : List ℕ) → r ≡ Successful (idOf (before .generation + 1) slot) 0 → decodeQueues queues′ ≡ made (λ g. g + 1)
+    pub created : (r : CodeAnswer) (queues′ : List ℕ) → r ≡ Successful (idOf (suc (before .generation)) slot) 0
+        → decodeQueues queues′ ≡ mapWithIndex (atIndex slot (newQueue name limit maxSize attributes)) (decodeQueues (t .queues))
         → encode (decode (tables queues′ (t .pool) (t .tasks))) ≡ tables queues′ (t .pool) (t .tasks) → Outcome-is r (tables queues′ (t .pool) (t .tasks))
     unfolding answerOf effect Create.effect decode
     created r queues′ answered written kept =
@@ -108,13 +107,13 @@ module _ (t : Tables) (caller name limit maxSize attributes share : ℕ) (own : 
         ∙ ap (λ (i : ℕ). encoded (Create.effect (decode t) i name limit maxSize attributes)) slot-is
         ∙ sym (refuses-none t _ _ (subst None same-refusals none-of-them))
       where
-        value-is : idOf (before .generation + 1) slot ≡ idOf (suc (queueAt (decode t) slot .generation)) slot
-        value-is = ap (λ (g : ℕ). idOf g slot) (add-one (before .generation) ∙ ap (λ (q : Queue). suc (q .generation)) (sym (queue-at t slot (in-range .3))))
+        value-is : idOf (suc (before .generation)) slot ≡ idOf (suc (queueAt (decode t) slot .generation)) slot
+        value-is = ap (λ (q : Queue). idOf (suc (q .generation)) slot) (sym (queue-at t slot (in-range .3)))
 
         both-same : outcomeOf r (tables queues′ (t .pool) (t .tasks)) ≡ encoded (Create.effect (decode t) slot name limit maxSize attributes)
         both-same = λ i. record {
           answer = (ap answerOf answered ∙ ap (λ (v : ℕ). answerOf (Successful v 0)) value-is) i;
-          after = (sym kept ∙ ap (λ (l : List Queue). encode (record { queues = l; pool = decode t .pool; tasks = decode t .tasks })) (written ∙ ap made (λ j g. add-one g j))) i;
+          after = (sym kept ∙ ap (λ (l : List Queue). encode (record { queues = l; pool = decode t .pool; tasks = decode t .tasks })) written) i;
         }
 
 -- the queue records of sound tables are as their rules say

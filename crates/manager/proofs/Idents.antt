@@ -12,6 +12,7 @@ use Rattle.records.specs.Split
 use Rattle.records.specs.Split.{shareCount, shareOfSlot, shareOfTask}
 use Rattle.records.specs.Records.{Queue, isOpen}
 use Rattle.records.specs.Bytes.{Tables, decodeQueue, decodeQueues, decode, encode}
+use Rattle.records.specs.declared.status.RefusalStatus.the-variants.{InvalidName, InvalidNode}
 use Rattle.records.proofs.Access.{queue-at}
 use Rattle.specification.specs.Answer.{refuseIfAny}
 use Rattle.specification.specs.Call.{ident}
@@ -35,12 +36,12 @@ pub named-test : (caller name share i : ℕ) (q : Queue) (s r : ℕ) (o : Bool) 
 named-test caller name share i q s r o e f g = rw (e, f, g) (four _ _ _ _)
 
 module _ (t : Tables) (caller name share : ℕ) where
-  pub no-name : name ≡ 0 → outcomeOf (Refused 1) t ≡ accepted t caller (ident name share)
+  pub no-name : name ≡ 0 → outcomeOf (Refused InvalidName) t ≡ accepted t caller (ident name share)
   unfolding answerOf directiveRefusals refusals refuseIfAny
   no-name e = rw (eq-eqb name 0 e)
 
   module _ (some : name ≡ 0 → ⊥) where
-    pub no-share : 4 ≤ share → outcomeOf (Refused 9) t ≡ accepted t caller (ident name share)
+    pub no-share : 4 ≤ share → outcomeOf (Refused InvalidNode) t ≡ accepted t caller (ident name share)
     unfolding answerOf directiveRefusals refusals refuseIfAny shareCount Split.split
     no-share h = rw (ne-eqb name 0 some, le-leb 4 share h)
 
@@ -49,7 +50,7 @@ module _ (t : Tables) (caller name share : ℕ) where
       unfolding named decode
       slot-is = sym found
 
-      pub not-found : 16 ≤ slot → outcomeOf (Refused 1) t ≡ accepted t caller (ident name share)
+      pub not-found : 16 ≤ slot → outcomeOf (Refused InvalidName) t ≡ accepted t caller (ident name share)
       unfolding answerOf directiveRefusals refusals refuseIfAny shareCount Split.split
       not-found h = rw (ne-eqb name 0 some, lt-leb 4 share in-share, slot-is, le-leb 16 slot h)
 

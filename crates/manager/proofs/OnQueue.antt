@@ -14,7 +14,8 @@ use Rattle.ranks.proofs.Lists.{holds}
 use Rattle.records.specs.Layout.{slotOf}
 use Rattle.records.specs.Records.{Queue, sizeAllowed, queueAt}
 use Rattle.records.specs.Bytes.{Tables, decodeQueue, decode, encode}
-use Rattle.records.specs.Status.{INVALID-ID}
+use Rattle.records.specs.Status.{INVALID-ID, statusNumber}
+use Rattle.records.specs.declared.status.RefusalStatus.{RefusalStatus}
 use Rattle.records.proofs.Access.{queue-at}
 use Rattle.specification.specs.Answer.{Refusal, _⇒_, firstStatus}
 use Rattle.specification.specs.Call.{Operation, onQueue}
@@ -61,8 +62,8 @@ module _ (t : Tables) (caller id : ℕ) (operation : Operation) (q : Queue) (rea
     unfolding directiveRefusals
     tested-are = ap₂ {C = List Refusal} (λ (u : Bool) (rs : List Refusal). (not u ⇒ INVALID-ID) ∷ rs) (sym usable-is) own-is
 
-    pub refused-operation : (n : ℕ) → n ≡ firstStatus tested → (n ≡ 0 → ⊥) → Answers (Refused n) t
-    refused-operation n e ne = refused t _ (directiveRefusals (decode t) caller (onQueue id operation)) n (e ∙ ap firstStatus tested-are) ne
+    pub refused-operation : (s : RefusalStatus) → statusNumber s ≡ firstStatus tested → Answers (Refused s) t
+    refused-operation s e = refused t _ (directiveRefusals (decode t) caller (onQueue id operation)) s (e ∙ ap firstStatus tested-are)
 
     pub done : None tested → (a : CodeAnswer) (t′ : Tables)
         → answerOf a ≡ operationEffect (decode t) caller (slotOf id) operation .answer → t′ ≡ encode (operationEffect (decode t) caller (slotOf id) operation .after)

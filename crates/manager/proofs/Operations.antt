@@ -6,9 +6,9 @@ use mathlib.Core.List.{List, [], _∷_}
 use Rattle.ranks.specs.Lists.{mask, allTrue}
 use Rattle.ranks.specs.Table.{slice}
 use Rattle.records.specs.Layout.{slotOf}
-use Rattle.records.specs.Records.{Queue, freeQueue}
+use Rattle.records.specs.Records.{Queue}
 use Rattle.records.specs.Bytes.{Tables, decodeQueue, decodeQueues, decodePool, decodeTasks, decode, encode}
-use Rattle.records.specs.Changes.{changeAt, withPending, readyWith}
+use Rattle.records.specs.Changes.{changeAt, withPending, freed, readyWith}
 use Rattle.records.specs.Status.{INVALID-ID, OBJECT-WAS-DELETED, ILLEGAL-ON-REMOTE-OBJECT}
 use Rattle.specification.specs.Answer.{Refusal, _⇒_, firstStatus}
 use Rattle.specification.specs.Call.{getNumberPending, flush, delete}
@@ -50,7 +50,7 @@ module _ (t : Tables) (caller id : ℕ) (q : Queue) (read : q ≡ decodeQueue (s
         (left queues′ pool′ (t .tasks) (Flush.effect (decode t) (slotOf id) .after) same written cleared refl)
 
     pub delete-done : (tasks′ : List ℕ) (woken : ℕ) → woken ≡ mask (waitersOf (slotOf id) (decodeTasks (t .tasks)))
-        → decodeQueues queues′ ≡ changeAt (slotOf id) (λ x. freeQueue (x .generation)) (decodeQueues (t .queues))
+        → decodeQueues queues′ ≡ changeAt (slotOf id) freed (decodeQueues (t .queues))
         → decodeTasks tasks′ ≡ withoutWaiters (slotOf id) (readyWith OBJECT-WAS-DELETED) (decodeTasks (t .tasks))
         → encode (decode (tables queues′ pool′ tasks′)) ≡ tables queues′ pool′ tasks′
         → Answers t caller id delete q read (Successful 0 woken) (tables queues′ pool′ tasks′)

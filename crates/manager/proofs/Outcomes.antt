@@ -7,7 +7,10 @@ use lib.ListN.{length, getD}
 use Rattle.records.specs.Records.{State}
 use Rattle.records.specs.Bytes.{Tables, decodeQueues, decodePool, decodeTasks, decode, encode, rightLengths}
 use Rattle.records.specs.InRange.{AllBytes}
+use Rattle.records.specs.Status.{statusNumber}
+use Rattle.records.specs.declared.status.RefusalStatus.{RefusalStatus}
 use Rattle.records.proofs.EncodeDecode.{lengths, encode-decode}
+use Rattle.records.proofs.Statuses.{not-zero}
 use Rattle.specification.specs.Answer.{Outcome, Refusal, refuseIfAny, firstStatus}
 use Rattle.specification.proofs.Refused.{refused-first}
 use Rattle.specification.proofs.SoundFacts.{SoundFacts, sound-facts}
@@ -51,6 +54,6 @@ unfolding decode
 left q p w s same eq ep ew = sym same ∙ ap encode (λ i. record { queues = eq i; pool = ep i; tasks = ew i })
 
 -- the code's status is that of the first refusal
-pub refused : (t : Tables) (o : Outcome Tables) (rs : List Refusal) (n : ℕ) → n ≡ firstStatus rs → (n ≡ 0 → ⊥) → outcomeOf (Refused n) t ≡ refuseIfAny t rs o
+pub refused : (t : Tables) (o : Outcome Tables) (rs : List Refusal) (s : RefusalStatus) → statusNumber s ≡ firstStatus rs → outcomeOf (Refused s) t ≡ refuseIfAny t rs o
 unfolding answerOf
-refused t o rs n e ne = refused-first t rs o n e ne
+refused t o rs s e = refused-first t rs o (statusNumber s) e (not-zero s)

@@ -3,7 +3,7 @@ use Rattle.ranks.specs.Prelude.{ℕ, _≡_, Bool, true, false, not, List, [], _
 use Rattle.ranks.specs.Lists.{if_then_else_}
 use Rattle.records.specs.Records.{State}
 use Rattle.records.specs.Bytes.{Tables, decodeQueues, decode, rightLengths}
-use Rattle.records.specs.Status.{SUCCESSFUL, WAITING, CORRUPT, BAD-CALLER, BAD-SHAPE}
+use Rattle.records.specs.Status.{SUCCESSFUL, WAITING, CORRUPT, BAD-CALLER, BAD-SHAPE, statusNumber}
 use Rattle.specification.specs.Answer.{Answer, Outcome, Refusal, refuseIfAny, _⇒_}
 use Rattle.specification.specs.Call.{Directive, call}
 use Rattle.specification.specs.Sound.{sound}
@@ -11,11 +11,11 @@ use Rattle.specification.specs.Step.{badCaller, directiveRefusals, effect, enco
 use Rattle.manager.specs.declared.answer.Answer.{Answer as CodeAnswer}
 use Rattle.manager.specs.declared.answer.Answer.the-variants.{Successful, Waiting, Refused}
 
--- an answer of the code
+-- an answer of the code, with the paper's number for each status
 unfoldable pub answerOf : CodeAnswer → Answer
 answerOf (Successful value woken) = record { status = SUCCESSFUL; value = value; woken = woken }
 answerOf Waiting = record { status = WAITING; value = 0; woken = 0 }
-answerOf (Refused status) = record { status = status; value = 0; woken = 0 }
+answerOf (Refused status) = record { status = statusNumber status; value = 0; woken = 0 }
 
 abbrev pub tables : (queues pool tasks : List ℕ) → Tables
 tables queues pool tasks = record { queues = queues; pool = pool; tasks = tasks }

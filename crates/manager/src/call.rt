@@ -2,9 +2,12 @@
 ghost use mathlib.Core.Path.{_≡_};
 ghost use lib.ListN.{length};
 ghost use Rattle.records.specs.Bytes.{decode, rightLengths};
+ghost use Rattle.records.specs.Status.{verdictStatus};
 ghost use Rattle.specification.specs.Answer.{firstStatus};
 ghost use Rattle.specification.specs.Step.{badCaller};
 ghost use Rattle.manager.specs.Outcomes.{tables, tableRefusals, callRefusals};
+use records::status::RefusalStatus;
+use records::status::Verdict;
 use records::task::read_head;
 use soundness::search::is_sound;
 
@@ -26,37 +29,43 @@ pub fn bad_caller(queues: &[u8], pool: &[u8], tasks: &[u8], caller: u32) -> bool
     h.state == 1
 }
 
-// The status of the first test of the tables that they fail, 16 or 10, or 0.
-pub fn table_refusal(queues: &[u8], pool: &[u8], tasks: &[u8]) -> u8
-    ensures { λ r. ⌜ r ≡ firstStatus (tableRefusals (tables (now (queues .entry)) (now (pool .entry)) (now (tasks .entry)))) ⌝ }
+// The first test of the tables that they fail, 16 or 10.
+pub fn table_refusal(queues: &[u8], pool: &[u8], tasks: &[u8]) -> Verdict
+    ensures { λ r. ⌜ verdictStatus r ≡ firstStatus (tableRefusals (tables (now (queues .entry)) (now (pool .entry)) (now (tasks .entry)))) ⌝ }
 {
     if !right_lengths(queues, pool, tasks) {
-        return 16;
+        return Verdict::Refused(RefusalStatus::BadShape);
     }
     if !is_sound(queues, pool, tasks) {
-        return 10;
+        return Verdict::Refused(RefusalStatus::Corrupt);
     }
-    0
+    Verdict::Passed
 }
 
-// The status of the first of the tests 16, 10 and 11 that refuses the call, or 0, on tables whose own tests gave this status.
-pub fn caller_refusal(queues: &[u8], pool: &[u8], tasks: &[u8], caller: u32, status: u8) -> u8
-    requires { ⌜ status ≡ firstStatus (tableRefusals (tables (now queues) (now pool) (now tasks))) ⌝ }
-    ensures { λ r. ⌜ r ≡ firstStatus (callRefusals (tables (now (queues .entry)) (now (pool .entry)) (now (tasks .entry))) caller) ⌝ }
+// The first of the tests 16, 10 and 11 that refuses the call, on tables whose own tests gave this verdict.
+pub fn caller_refusal(
+    queues: &[u8],
+    pool: &[u8],
+    tasks: &[u8],
+    caller: u32,
+    verdict: Verdict,
+) -> Verdict
+    requires { ⌜ verdictStatus verdict ≡ firstStatus (tableRefusals (tables (now queues) (now pool) (now tasks))) ⌝ }
+    ensures { λ r. ⌜ verdictStatus r ≡ firstStatus (callRefusals (tables (now (queues .entry)) (now (pool .entry)) (now (tasks .entry))) caller) ⌝ }
 {
-    if status != 0 {
-        return status;
+    if let Verdict::Refused(status) = verdict {
+        return Verdict::Refused(status);
     }
     if bad_caller(queues, pool, tasks, caller) {
-        return 11;
+        return Verdict::Refused(RefusalStatus::BadCaller);
     }
-    0
+    Verdict::Passed
 }
 
 // "Order: 16, 10, 11, then as each directive lists."
-pub fn call_refusal(queues: &[u8], pool: &[u8], tasks: &[u8], caller: u32) -> u8
-    ensures { λ r. ⌜ r ≡ firstStatus (callRefusals (tables (now (queues .entry)) (now (pool .entry)) (now (tasks .entry))) caller) ⌝ }
+pub fn call_refusal(queues: &[u8], pool: &[u8], tasks: &[u8], caller: u32) -> Verdict
+    ensures { λ r. ⌜ verdictStatus r ≡ firstStatus (callRefusals (tables (now (queues .entry)) (now (pool .entry)) (now (tasks .entry))) caller) ⌝ }
 {
-    let status = table_refusal(queues, pool, tasks);
-    caller_refusal(queues, pool, tasks, caller, status)
+    let verdict = table_refusal(queues, pool, tasks);
+    caller_refusal(queues, pool, tasks, caller, verdict)
 }

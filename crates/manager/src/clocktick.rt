@@ -8,6 +8,7 @@ ghost use lib.ListN.{length};
 ghost use Rattle.ranks.specs.Lists.{mapWithIndex, mask};
 ghost use Rattle.ranks.specs.Table.{slice};
 ghost use Rattle.records.specs.Bytes.{decodeTask, decodeTasks, decode, rightLengths};
+ghost use Rattle.records.specs.Status.{verdictStatus};
 ghost use Rattle.specification.specs.Answer.{firstStatus};
 ghost use Rattle.specification.specs.Call.{tick};
 ghost use Rattle.specification.specs.Sound.{sound};
@@ -22,6 +23,7 @@ use coremsg::masks::with_bit;
 use coremsg::waiters::time_out;
 use records::queue::read_queue;
 use records::queue::write_queue;
+use records::status::Verdict;
 use records::task::TaskHead;
 use records::task::read_head;
 use records::task::write_head;
@@ -89,13 +91,13 @@ pub fn tick(queues: &mut [u8], pool: &[u8], tasks: &mut [u8]) -> Answer
     Answer::Successful(u32::count_ones(woken), woken)
 }
 
-// The tick, on tables whose own tests gave this status.
-pub fn tick_after(queues: &mut [u8], pool: &[u8], tasks: &mut [u8], status: u8) -> Answer
-    requires { ⌜ status ≡ firstStatus (tableRefusals (tables (now queues) (now pool) (now tasks))) ⌝ }
+// The tick, on tables whose own tests gave this verdict.
+pub fn tick_after(queues: &mut [u8], pool: &[u8], tasks: &mut [u8], verdict: Verdict) -> Answer
+    requires { ⌜ verdictStatus verdict ≡ firstStatus (tableRefusals (tables (now queues) (now pool) (now tasks))) ⌝ }
     ensures { λ r. ⌜ outcomeOf r (tables (now (queues .exit)) (now (pool .entry)) (now (tasks .exit)))
         ≡ step (tables (now (queues .entry)) (now (pool .entry)) (now (tasks .entry))) tick ⌝ }
 {
-    if status != 0 {
+    if let Verdict::Refused(status) = verdict {
         return Answer::Refused(status);
     }
     tick(queues, pool, tasks)
@@ -106,6 +108,6 @@ pub fn clock_tick(queues: &mut [u8], pool: &[u8], tasks: &mut [u8]) -> Answer
     ensures { λ r. ⌜ outcomeOf r (tables (now (queues .exit)) (now (pool .entry)) (now (tasks .exit)))
         ≡ step (tables (now (queues .entry)) (now (pool .entry)) (now (tasks .entry))) tick ⌝ }
 {
-    let status = table_refusal(queues, pool, tasks);
-    tick_after(queues, pool, tasks, status)
+    let verdict = table_refusal(queues, pool, tasks);
+    tick_after(queues, pool, tasks, verdict)
 }

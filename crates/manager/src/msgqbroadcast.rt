@@ -4,7 +4,7 @@ ghost use mathlib.Core.Bool.{not};
 ghost use mathlib.Core.List.{[], _∷_};
 ghost use Prim.Native.Nat.{_<_};
 ghost use Rattle.records.specs.Records.{sizeAllowed};
-ghost use Rattle.records.specs.Status.{INVALID-ID, INVALID-SIZE};
+ghost use Rattle.records.specs.Status.{INVALID-ID, INVALID-SIZE, verdictStatus};
 ghost use Rattle.specification.specs.Answer.{_⇒_, firstStatus};
 ghost use Rattle.specification.specs.Call.{call, onQueue, broadcast};
 ghost use Rattle.specification.specs.Lookup.{usableQueue};
@@ -19,19 +19,21 @@ use coremsg::waiters::waiters_mask;
 use records::queue::QueueRecord;
 use records::queue::read_queue;
 use records::queue::write_queue;
+use records::status::RefusalStatus;
+use records::status::Verdict;
 
-// The status of the first refusal, or 0.
-fn refusal(q: QueueRecord, caller: usize, id: u32, size: usize) -> u8
+// The first refusal.
+fn refusal(q: QueueRecord, caller: usize, id: u32, size: usize) -> Verdict
     requires { ⌜ caller < 32 ⌝ }
-    ensures { λ r. ⌜ r ≡ firstStatus ((not (usableQueue q caller id) ⇒ INVALID-ID) ∷ (not (sizeAllowed q size) ⇒ INVALID-SIZE) ∷ []) ⌝ }
+    ensures { λ r. ⌜ verdictStatus r ≡ firstStatus ((not (usableQueue q caller id) ⇒ INVALID-ID) ∷ (not (sizeAllowed q size) ⇒ INVALID-SIZE) ∷ []) ⌝ }
 {
     if !usable(q, caller, id) {
-        return 2;
+        return Verdict::Refused(RefusalStatus::InvalidId);
     }
     if bad_size(q, size) {
-        return 3;
+        return Verdict::Refused(RefusalStatus::InvalidSize);
     }
-    0
+    Verdict::Passed
 }
 
 // Broadcast, on sound tables and for a caller that may call.
@@ -49,8 +51,8 @@ pub fn broadcast(
 {
     let slot = (id % 16) as usize;
     let q = read_queue(queues, slot);
-    let status = refusal(q, caller, id, message.len());
-    if status != 0 {
+    let verdict = refusal(q, caller, id, message.len());
+    if let Verdict::Refused(status) = verdict {
         return Answer::Refused(status);
     }
     let woken = waiters_mask(tasks, slot);
@@ -70,8 +72,8 @@ pub fn message_queue_broadcast(
     ensures { λ r. ⌜ outcomeOf r (tables (now (queues .exit)) (now (pool .entry)) (now (tasks .exit)))
         ≡ step (tables (now (queues .entry)) (now (pool .entry)) (now (tasks .entry))) (call caller (onQueue id (broadcast (now (message .entry))))) ⌝ }
 {
-    let status = call_refusal(queues, pool, tasks, caller);
-    if status != 0 {
+    let verdict = call_refusal(queues, pool, tasks, caller);
+    if let Verdict::Refused(status) = verdict {
         return Answer::Refused(status);
     }
     broadcast(queues, pool, tasks, caller as usize, id, message)

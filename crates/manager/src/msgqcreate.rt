@@ -1,6 +1,6 @@
 // Create.
 ghost use mathlib.Core.Path.{_≡_};
-ghost use Prim.Native.Nat.{_+_, _*_, _<_};
+ghost use Prim.Native.Nat.{suc, _*_, _<_};
 ghost use lib.ListN.{length};
 ghost use mathlib.Core.Bool.{true, not};
 ghost use Rattle.ranks.specs.Lists.{within, mapWithIndex, firstTrue, every};
@@ -11,6 +11,7 @@ ghost use Rattle.specification.specs.Sound.{soundQueue};
 ghost use Rattle.specification.specs.Step.{step};
 ghost use Rattle.specification.specs.Create.{isFreeSlot, newQueue, refusals};
 ghost use Rattle.records.specs.Layout.{idOf};
+ghost use Rattle.records.specs.Status.{verdictStatus};
 ghost use Rattle.records.specs.Changes.{atIndex};
 ghost use Rattle.manager.specs.declared.answer.Answer.the-variants.{Successful};
 ghost use Rattle.specification.specs.Answer.{firstStatus};
@@ -19,12 +20,13 @@ ghost use Rattle.manager.specs.Outcomes.{tables, outcomeOf, Callable, ac
 use crate::answer::Answer;
 use crate::call::call_refusal;
 use coremsg::lookup::id_of;
-use records::queue::QueueRecord;
 use records::queue::read_queue;
 use records::queue::write_queue;
 use records::shares::share_limit;
 use records::shares::share_of_slot;
 use records::shares::share_of_task;
+use records::status::RefusalStatus;
+use records::status::Verdict;
 use soundness::queues::share_limits;
 
 // The slot is free, of the share, and not spent.
@@ -51,30 +53,13 @@ fn free_slot(queues: &[u8], share: usize) -> usize
     i
 }
 
-// A live queue with no message and no waiter.
-fn new_queue(generation: u16, name: u32, limit: u8, size: u8, attributes: u8) -> QueueRecord
-    ensures { λ r. ⌜ r ≡ newQueue generation name limit size attributes ⌝ }
-{
-    QueueRecord {
-        live: 1,
-        attributes,
-        limit,
-        maxSize: size,
-        generation,
-        pending: 0,
-        waiters: 0,
-        name,
-        reserved: [0, 0, 0, 0],
-    }
-}
-
 fn outside(low: u32, high: u32, x: u32) -> bool
     ensures { λ r. ⌜ r ≡ not (within low high x) ⌝ }
 {
     !((low <= x) & (x <= high))
 }
 
-// The status of the first refusal, or 0. The slot is the one that create would take.
+// The first refusal. The slot is the one that create would take.
 fn refusal(
     queues: &[u8],
     share: usize,
@@ -83,32 +68,32 @@ fn refusal(
     limit: u32,
     size: u32,
     attributes: u32,
-) -> u8
+) -> Verdict
     requires { ⌜ (length (now queues) ≡ 256) × ((share < 4) × ((slot ≡ firstTrue (mapWithIndex (isFreeSlot share) (decodeQueues (now queues)))) × (every (λ i q. soundQueue q) (decodeQueues (now queues)) ≡ true))) ⌝ }
-    ensures { λ r. ⌜ r ≡ firstStatus (refusals (onlyQueues (now (queues .entry))) share name limit size attributes) ⌝ }
+    ensures { λ r. ⌜ verdictStatus r ≡ firstStatus (refusals (onlyQueues (now (queues .entry))) share name limit size attributes) ⌝ }
 {
     if name == 0 {
-        return 1;
+        return Verdict::Refused(RefusalStatus::InvalidName);
     }
     if 3 < attributes {
-        return 15;
+        return Verdict::Refused(RefusalStatus::InvalidOption);
     }
     if outside(1, 16, limit) {
-        return 4;
+        return Verdict::Refused(RefusalStatus::InvalidNumber);
     }
     if outside(1, 120, size) {
-        return 3;
+        return Verdict::Refused(RefusalStatus::InvalidSize);
     }
     if 16 <= slot {
-        return 5;
+        return Verdict::Refused(RefusalStatus::TooMany);
     }
     if share_limit(share) < share_limits(queues, share) + limit as usize {
-        return 6;
+        return Verdict::Refused(RefusalStatus::Unsatisfied);
     }
-    0
+    Verdict::Passed
 }
 
-// The queue is made in the slot.
+// The queue is made in the slot, whose record gets the next generation.
 fn create_in(
     queues: &mut [u8],
     slot: usize,
@@ -118,15 +103,16 @@ fn create_in(
     attributes: u8,
 ) -> Answer
     requires { ⌜ (length (now queues) ≡ 256) × ((slot < 16) × (decodeQueue (slice (slot * 16) 16 (now queues)) .generation < 65535)) ⌝ }
-    ensures { λ r. ⌜ (r ≡ Successful (idOf (decodeQueue (slice (slot * 16) 16 (now (queues .entry))) .generation + 1) slot) 0)
-        × (decodeQueues (now (queues .exit)) ≡ mapWithIndex (atIndex slot (λ q. newQueue (q .generation + 1) name limit size attributes)) (decodeQueues (now (queues .entry)))) ⌝ }
+    ensures { λ r. ⌜ (r ≡ Successful (idOf (suc (decodeQueue (slice (slot * 16) 16 (now (queues .entry))) .generation)) slot) 0)
+        × (decodeQueues (now (queues .exit)) ≡ mapWithIndex (atIndex slot (newQueue name limit size attributes)) (decodeQueues (now (queues .entry)))) ⌝ }
 {
     let q = read_queue(queues, slot);
     let generation = q.generation + 1;
     write_queue(
         queues,
         slot,
-        new_queue(generation, name, limit, size, attributes),
+        q.with_generation(generation)
+            .live_with(name, limit, size, attributes),
     );
     Answer::Successful(id_of(generation, slot), 0)
 }
@@ -148,8 +134,8 @@ pub fn create(
 {
     let share = share_of_task(caller);
     let slot = free_slot(queues, share);
-    let status = refusal(queues, share, slot, name, limit, size, attributes);
-    if status != 0 {
+    let verdict = refusal(queues, share, slot, name, limit, size, attributes);
+    if let Verdict::Refused(status) = verdict {
         return Answer::Refused(status);
     }
     create_in(
@@ -175,8 +161,8 @@ pub fn message_queue_create(
     ensures { λ r. ⌜ outcomeOf r (tables (now (queues .exit)) (now (pool .entry)) (now (tasks .entry)))
         ≡ step (tables (now (queues .entry)) (now (pool .entry)) (now (tasks .entry))) (call caller (create name limit size attributes)) ⌝ }
 {
-    let status = call_refusal(queues, pool, tasks, caller);
-    if status != 0 {
+    let verdict = call_refusal(queues, pool, tasks, caller);
+    if let Verdict::Refused(status) = verdict {
         return Answer::Refused(status);
     }
     create(

@@ -1,6 +1,5 @@
 // Delete.
 ghost use mathlib.Core.Path.{_≡_};
-ghost use Rattle.records.specs.Records.{freeQueue};
 ghost use Rattle.specification.specs.Call.{call, onQueue, delete};
 ghost use Rattle.specification.specs.Step.{step};
 ghost use Rattle.manager.specs.Outcomes.{tables, outcomeOf, Callable, accepted};
@@ -10,26 +9,10 @@ use coremsg::lookup::owner_refusal;
 use coremsg::messages::clear_messages;
 use coremsg::waiters::ready_all;
 use coremsg::waiters::waiters_mask;
-use records::queue::QueueRecord;
 use records::queue::read_queue;
 use records::queue::write_queue;
-
-// A record that is zero but for its generation.
-fn free_queue(generation: u16) -> QueueRecord
-    ensures { λ r. ⌜ r ≡ freeQueue generation ⌝ }
-{
-    QueueRecord {
-        live: 0,
-        attributes: 0,
-        limit: 0,
-        maxSize: 0,
-        generation,
-        pending: 0,
-        waiters: 0,
-        name: 0,
-        reserved: [0, 0, 0, 0],
-    }
-}
+use records::status::OBJECT_WAS_DELETED;
+use records::status::Verdict;
 
 // Delete, on sound tables and for a caller that may call.
 pub fn delete(
@@ -45,14 +28,14 @@ pub fn delete(
 {
     let slot = (id % 16) as usize;
     let q = read_queue(queues, slot);
-    let status = owner_refusal(q, caller, id);
-    if status != 0 {
+    let verdict = owner_refusal(q, caller, id);
+    if let Verdict::Refused(status) = verdict {
         return Answer::Refused(status);
     }
     let woken = waiters_mask(tasks, slot);
-    ready_all(tasks, slot, 8);
+    ready_all(tasks, slot, OBJECT_WAS_DELETED);
     clear_messages(pool, slot);
-    write_queue(queues, slot, free_queue(q.generation));
+    write_queue(queues, slot, q.freed());
     Answer::Successful(0, woken)
 }
 
@@ -66,8 +49,8 @@ pub fn message_queue_delete(
     ensures { λ r. ⌜ outcomeOf r (tables (now (queues .exit)) (now (pool .exit)) (now (tasks .exit)))
         ≡ step (tables (now (queues .entry)) (now (pool .entry)) (now (tasks .entry))) (call caller (onQueue id delete)) ⌝ }
 {
-    let status = call_refusal(queues, pool, tasks, caller);
-    if status != 0 {
+    let verdict = call_refusal(queues, pool, tasks, caller);
+    if let Verdict::Refused(status) = verdict {
         return Answer::Refused(status);
     }
     delete(queues, pool, tasks, caller as usize, id)

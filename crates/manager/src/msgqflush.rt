@@ -9,6 +9,7 @@ use coremsg::lookup::owner_refusal;
 use coremsg::messages::clear_messages;
 use records::queue::read_queue;
 use records::queue::write_queue;
+use records::status::Verdict;
 
 // Flush, on sound tables and for a caller that may call.
 pub fn flush(queues: &mut [u8], pool: &mut [u8], tasks: &[u8], caller: usize, id: u32) -> Answer
@@ -18,8 +19,8 @@ pub fn flush(queues: &mut [u8], pool: &mut [u8], tasks: &[u8], caller: usize, id
 {
     let slot = (id % 16) as usize;
     let q = read_queue(queues, slot);
-    let status = owner_refusal(q, caller, id);
-    if status != 0 {
+    let verdict = owner_refusal(q, caller, id);
+    if let Verdict::Refused(status) = verdict {
         return Answer::Refused(status);
     }
     clear_messages(pool, slot);
@@ -37,8 +38,8 @@ pub fn message_queue_flush(
     ensures { λ r. ⌜ outcomeOf r (tables (now (queues .exit)) (now (pool .exit)) (now (tasks .entry)))
         ≡ step (tables (now (queues .entry)) (now (pool .entry)) (now (tasks .entry))) (call caller (onQueue id flush)) ⌝ }
 {
-    let status = call_refusal(queues, pool, tasks, caller);
-    if status != 0 {
+    let verdict = call_refusal(queues, pool, tasks, caller);
+    if let Verdict::Refused(status) = verdict {
         return Answer::Refused(status);
     }
     flush(queues, pool, tasks, caller as usize, id)

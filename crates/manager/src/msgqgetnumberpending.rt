@@ -7,6 +7,8 @@ use crate::answer::Answer;
 use crate::call::call_refusal;
 use coremsg::lookup::usable;
 use records::queue::read_queue;
+use records::status::RefusalStatus;
+use records::status::Verdict;
 
 // Get number pending, on sound tables and for a caller that may call.
 pub fn get_number_pending(
@@ -22,7 +24,7 @@ pub fn get_number_pending(
 {
     let q = read_queue(queues, (id % 16) as usize);
     if !usable(q, caller, id) {
-        return Answer::Refused(2);
+        return Answer::Refused(RefusalStatus::InvalidId);
     }
     Answer::Successful(q.pending as u32, 0)
 }
@@ -37,8 +39,8 @@ pub fn message_queue_get_number_pending(
     ensures { λ r. ⌜ outcomeOf r (tables (now (queues .entry)) (now (pool .entry)) (now (tasks .entry)))
         ≡ step (tables (now (queues .entry)) (now (pool .entry)) (now (tasks .entry))) (call caller (onQueue id getNumberPending)) ⌝ }
 {
-    let status = call_refusal(queues, pool, tasks, caller);
-    if status != 0 {
+    let verdict = call_refusal(queues, pool, tasks, caller);
+    if let Verdict::Refused(status) = verdict {
         return Answer::Refused(status);
     }
     get_number_pending(queues, pool, tasks, caller as usize, id)

@@ -16,6 +16,8 @@ use coremsg::lookup::is_open;
 use records::queue::read_queue;
 use records::shares::share_of_slot;
 use records::shares::share_of_task;
+use records::status::RefusalStatus;
+use records::status::Verdict;
 
 // The slot is a live queue of the share with the name, and the caller may see it.
 fn is_named(queues: &[u8], caller: usize, name: u32, share: usize, slot: usize) -> bool
@@ -58,14 +60,14 @@ pub fn ident(
         ≡ accepted (tables (now (queues .entry)) (now (pool .entry)) (now (tasks .entry))) caller (ident name share) ⌝ }
 {
     if name == 0 {
-        return Answer::Refused(1);
+        return Answer::Refused(RefusalStatus::InvalidName);
     }
     if 4 <= share {
-        return Answer::Refused(9);
+        return Answer::Refused(RefusalStatus::InvalidNode);
     }
     let slot = named(queues, caller, name, share as usize);
     if 16 <= slot {
-        return Answer::Refused(1);
+        return Answer::Refused(RefusalStatus::InvalidName);
     }
     let q = read_queue(queues, slot);
     Answer::Successful(id_of(q.generation, slot), 0)
@@ -82,8 +84,8 @@ pub fn message_queue_ident(
     ensures { λ r. ⌜ outcomeOf r (tables (now (queues .entry)) (now (pool .entry)) (now (tasks .entry)))
         ≡ step (tables (now (queues .entry)) (now (pool .entry)) (now (tasks .entry))) (call caller (ident name share)) ⌝ }
 {
-    let status = call_refusal(queues, pool, tasks, caller);
-    if status != 0 {
+    let verdict = call_refusal(queues, pool, tasks, caller);
+    if let Verdict::Refused(status) = verdict {
         return Answer::Refused(status);
     }
     ident(queues, pool, tasks, caller as usize, name, share)

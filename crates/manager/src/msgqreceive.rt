@@ -4,7 +4,7 @@ ghost use mathlib.Core.Bool.{_&&_, not};
 ghost use mathlib.Core.List.{[], _∷_};
 ghost use Prim.Native.Nat.{_<_};
 ghost use lib.Dec.{eqb, leb, ltb};
-ghost use Rattle.records.specs.Status.{INVALID-ID, INVALID-OPTION, UNSATISFIED};
+ghost use Rattle.records.specs.Status.{INVALID-ID, INVALID-OPTION, UNSATISFIED, verdictStatus};
 ghost use Rattle.specification.specs.Answer.{_⇒_, firstStatus};
 ghost use Rattle.specification.specs.Call.{call, onQueue, receive};
 ghost use Rattle.specification.specs.Lookup.{usableQueue};
@@ -23,23 +23,25 @@ use coremsg::waitrank::wait_rank;
 use records::queue::QueueRecord;
 use records::queue::read_queue;
 use records::queue::write_queue;
+use records::status::RefusalStatus;
+use records::status::Verdict;
 
-// The status of the first refusal, or 0. The message at rank 0 is in buffer b, if there is one.
-fn refusal(q: QueueRecord, caller: usize, id: u32, option: u32, b: usize) -> u8
+// The first refusal. The message at rank 0 is in buffer b, if there is one.
+fn refusal(q: QueueRecord, caller: usize, id: u32, option: u32, b: usize) -> Verdict
     requires { ⌜ caller < 32 ⌝ }
-    ensures { λ r. ⌜ r ≡ firstStatus
+    ensures { λ r. ⌜ verdictStatus r ≡ firstStatus
         ((not (usableQueue q caller id) ⇒ INVALID-ID) ∷ (ltb 1 option ⇒ INVALID-OPTION) ∷ (leb 64 b && eqb option 1 ⇒ UNSATISFIED) ∷ []) ⌝ }
 {
     if !usable(q, caller, id) {
-        return 2;
+        return Verdict::Refused(RefusalStatus::InvalidId);
     }
     if 1 < option {
-        return 15;
+        return Verdict::Refused(RefusalStatus::InvalidOption);
     }
     if (64 <= b) & (option == 1) {
-        return 6;
+        return Verdict::Refused(RefusalStatus::Unsatisfied);
     }
-    0
+    Verdict::Passed
 }
 
 // Receive, on sound tables and for a caller that may call.
@@ -59,8 +61,8 @@ pub fn receive(
     let slot = (id % 16) as usize;
     let q = read_queue(queues, slot);
     let b = first_message(pool, slot);
-    let status = refusal(q, caller, id, option, b);
-    if status != 0 {
+    let verdict = refusal(q, caller, id, option, b);
+    if let Verdict::Refused(status) = verdict {
         return Answer::Refused(status);
     }
     if b < 64 {
@@ -88,8 +90,8 @@ pub fn message_queue_receive(
     ensures { λ r. ⌜ outcomeOf r (tables (now (queues .exit)) (now (pool .exit)) (now (tasks .exit)))
         ≡ step (tables (now (queues .entry)) (now (pool .entry)) (now (tasks .entry))) (call caller (onQueue id (receive option ticks))) ⌝ }
 {
-    let status = call_refusal(queues, pool, tasks, caller);
-    if status != 0 {
+    let verdict = call_refusal(queues, pool, tasks, caller);
+    if let Verdict::Refused(status) = verdict {
         return Answer::Refused(status);
     }
     receive(queues, pool, tasks, caller as usize, id, option, ticks)

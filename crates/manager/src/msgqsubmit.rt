@@ -6,7 +6,7 @@ ghost use Prim.Native.Nat.{_<_};
 ghost use lib.Dec.{leb};
 ghost use Rattle.ranks.specs.Lists.{if_then_else_};
 ghost use Rattle.records.specs.Records.{sizeAllowed};
-ghost use Rattle.records.specs.Status.{INVALID-ID, INVALID-SIZE, TOO-MANY, NO-BUFFER};
+ghost use Rattle.records.specs.Status.{INVALID-ID, INVALID-SIZE, TOO-MANY, NO-BUFFER, verdictStatus};
 ghost use Rattle.specification.specs.Answer.{_⇒_, firstStatus};
 ghost use Rattle.specification.specs.Call.{onQueue, send, urgent};
 ghost use Rattle.specification.specs.Lookup.{usableQueue};
@@ -25,27 +25,29 @@ use records::queue::QueueRecord;
 use records::queue::read_queue;
 use records::queue::write_queue;
 use records::shares::share_of_slot;
+use records::status::RefusalStatus;
+use records::status::Verdict;
 
-// The status of the first refusal, or 0. Task t is the first waiter, and b the buffer that would be used.
-fn refusal(q: QueueRecord, caller: usize, id: u32, size: usize, t: usize, b: usize) -> u8
+// The first refusal. Task t is the first waiter, and b the buffer that would be used.
+fn refusal(q: QueueRecord, caller: usize, id: u32, size: usize, t: usize, b: usize) -> Verdict
     requires { ⌜ caller < 32 ⌝ }
-    ensures { λ r. ⌜ r ≡ firstStatus
+    ensures { λ r. ⌜ verdictStatus r ≡ firstStatus
         ((not (usableQueue q caller id) ⇒ INVALID-ID) ∷ (not (sizeAllowed q size) ⇒ INVALID-SIZE)
         ∷ (leb 32 t && isFull q ⇒ TOO-MANY) ∷ (leb 32 t && leb 64 b ⇒ NO-BUFFER) ∷ []) ⌝ }
 {
     if !usable(q, caller, id) {
-        return 2;
+        return Verdict::Refused(RefusalStatus::InvalidId);
     }
     if bad_size(q, size) {
-        return 3;
+        return Verdict::Refused(RefusalStatus::InvalidSize);
     }
     if (32 <= t) & (q.limit <= q.pending) {
-        return 5;
+        return Verdict::Refused(RefusalStatus::TooMany);
     }
     if (32 <= t) & (64 <= b) {
-        return 13;
+        return Verdict::Refused(RefusalStatus::NoBuffer);
     }
-    0
+    Verdict::Passed
 }
 
 // The rank at which a message is put: at the front, or at the rear.
@@ -74,8 +76,8 @@ pub fn submit(
     let q = read_queue(queues, slot);
     let t = first_waiter(tasks, slot);
     let b = free_buffer(pool, share_of_slot(slot));
-    let status = refusal(q, caller, id, message.len(), t, b);
-    if status != 0 {
+    let verdict = refusal(q, caller, id, message.len(), t, b);
+    if let Verdict::Refused(status) = verdict {
         return Answer::Refused(status);
     }
     if t < 32 {

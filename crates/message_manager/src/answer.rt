@@ -5,6 +5,8 @@ ghost use Rattle.manager.specs.Outcomes.{answerOf};
 ghost use Rattle.runs.specs.Replay.{answerRecord};
 use manager::answer::Answer;
 use records::bytes::copy_into;
+use records::status::SUCCESSFUL;
+use records::status::WAITING;
 use runs::answer::answer_record;
 
 // The status of an answer.
@@ -12,9 +14,9 @@ pub fn status_of(a: Answer) -> u32
     ensures { λ r. ⌜ r ≡ answerOf a .status ⌝ }
 {
     match a {
-        Answer::Successful(_, _) => 0,
-        Answer::Waiting => 14,
-        Answer::Refused(status) => status as u32,
+        Answer::Successful(_, _) => SUCCESSFUL as u32,
+        Answer::Waiting => WAITING as u32,
+        Answer::Refused(status) => status.number() as u32,
     }
 }
 

@@ -15,6 +15,7 @@ use manager::msgqident;
 use manager::msgqreceive;
 use manager::msgqsend;
 use manager::msgqurgent;
+use records::status::BAD_SHAPE;
 
 // Creates a queue. Value: its id.
 #[no_mangle]
@@ -34,7 +35,7 @@ pub extern "C" fn message_queue_create(
         (call caller (create name limit size attributes)) ⌝ }
 {
     if answer.len() != 16 {
-        return 16;
+        return BAD_SHAPE as u32;
     }
     let a = msgqcreate::message_queue_create(
         queues,
@@ -65,7 +66,7 @@ pub extern "C" fn message_queue_ident(
         (call caller (ident name share)) ⌝ }
 {
     if answer.len() != 16 {
-        return 16;
+        return BAD_SHAPE as u32;
     }
     let a = msgqident::message_queue_ident(queues, pool, tasks, caller, name, share);
     write_answer(answer, a, 2)
@@ -86,7 +87,7 @@ pub extern "C" fn message_queue_delete(
         (call caller (onQueue id delete)) ⌝ }
 {
     if answer.len() != 16 {
-        return 16;
+        return BAD_SHAPE as u32;
     }
     let a = msgqdelete::message_queue_delete(queues, pool, tasks, caller, id);
     write_answer(answer, a, 3)
@@ -108,7 +109,7 @@ pub extern "C" fn message_queue_send(
         (call caller (onQueue id (send (now (message .entry))))) ⌝ }
 {
     if answer.len() != 16 {
-        return 16;
+        return BAD_SHAPE as u32;
     }
     let a = msgqsend::message_queue_send(queues, pool, tasks, caller, id, message);
     write_answer(answer, a, 4)
@@ -130,7 +131,7 @@ pub extern "C" fn message_queue_urgent(
         (call caller (onQueue id (urgent (now (message .entry))))) ⌝ }
 {
     if answer.len() != 16 {
-        return 16;
+        return BAD_SHAPE as u32;
     }
     let a = msgqurgent::message_queue_urgent(queues, pool, tasks, caller, id, message);
     write_answer(answer, a, 5)
@@ -152,7 +153,7 @@ pub extern "C" fn message_queue_broadcast(
         (call caller (onQueue id (broadcast (now (message .entry))))) ⌝ }
 {
     if answer.len() != 16 {
-        return 16;
+        return BAD_SHAPE as u32;
     }
     let a = msgqbroadcast::message_queue_broadcast(queues, pool, tasks, caller, id, message);
     write_answer(answer, a, 6)
@@ -175,7 +176,7 @@ pub extern "C" fn message_queue_receive(
         (call caller (onQueue id (receive option ticks))) ⌝ }
 {
     if answer.len() != 16 {
-        return 16;
+        return BAD_SHAPE as u32;
     }
     let a = msgqreceive::message_queue_receive(queues, pool, tasks, caller, id, option, ticks);
     write_answer(answer, a, 7)
@@ -196,7 +197,7 @@ pub extern "C" fn message_queue_get_number_pending(
         (call caller (onQueue id getNumberPending)) ⌝ }
 {
     if answer.len() != 16 {
-        return 16;
+        return BAD_SHAPE as u32;
     }
     let a = msgqgetnumberpending::message_queue_get_number_pending(queues, pool, tasks, caller, id);
     write_answer(answer, a, 8)
@@ -217,7 +218,7 @@ pub extern "C" fn message_queue_flush(
         (call caller (onQueue id flush)) ⌝ }
 {
     if answer.len() != 16 {
-        return 16;
+        return BAD_SHAPE as u32;
     }
     let a = msgqflush::message_queue_flush(queues, pool, tasks, caller, id);
     write_answer(answer, a, 9)
@@ -236,7 +237,7 @@ pub extern "C" fn message_clock_tick(
         tick ⌝ }
 {
     if answer.len() != 16 {
-        return 16;
+        return BAD_SHAPE as u32;
     }
     let a = clocktick::clock_tick(queues, pool, tasks);
     write_answer(answer, a, 10)

@@ -7,6 +7,8 @@ ghost use Rattle.message_manager.specs.Interface.{calledRecord, replayed
 use crate::answer::write_answer;
 use calllog::call::LogResult;
 use calllog::reader::read_at;
+use records::status::BAD_SHAPE;
+use records::status::SUCCESSFUL;
 use runs::answer::answer_searching;
 use runs::replay::message_field;
 use runs::replay::replay;
@@ -45,7 +47,7 @@ pub extern "C" fn message_manager_call(
         ≡ calledRecord (now (answer .entry)) (tables (now (queues .entry)) (now (pool .entry)) (now (tasks .entry))) (now (bytes .entry)) ⌝ }
 {
     if answer.len() != 16 {
-        return 16;
+        return BAD_SHAPE as u32;
     }
     let a = answer_searching(
         queues,
@@ -70,7 +72,7 @@ pub extern "C" fn message_manager_replay(
         ≡ replayedLog (now (answers .entry)) (tables (now (queues .entry)) (now (pool .entry)) (now (tasks .entry))) (now (log .entry)) ⌝ }
 {
     if replay(queues, pool, tasks, log, answers) {
-        return 0;
+        return SUCCESSFUL as u32;
     }
-    16
+    BAD_SHAPE as u32
 }

@@ -4,6 +4,7 @@ pub mod DecodeEncode
 pub mod EncodeDecode
 pub mod InTurn
 pub mod RecordCases
+pub mod Statuses
 pub mod Tabled
 pub mod Writing
 pub mod ZeroBytes

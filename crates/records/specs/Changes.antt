@@ -4,7 +4,7 @@ use Rattle.ranks.specs.Lists.{if_then_else_, mapWithIndex}
 use Rattle.ranks.specs.Position.{Position, noQueue}
 use Rattle.ranks.specs.Steps.{insertInto, takeOutOf}
 use Rattle.records.specs.Layout.{capacity}
-use Rattle.records.specs.Records.{Queue, Buffer, Task, readyState, waitingState}
+use Rattle.records.specs.Records.{Queue, Buffer, Task, readyState, waitingState, freeQueue}
 use Rattle.records.specs.Status.{SUCCESSFUL, WAITING}
 
 -- `f` is done to record `i` of a table, and nothing to the others
@@ -50,6 +50,25 @@ withGeneration n q =
       name = q .name;
       reserved = q .reserved;
     }
+
+-- a live queue with no message and no waiter, and the record's generation
+abbrev pub liveWith : (name limit maxSize attributes : ℕ) → Queue → Queue
+liveWith name limit maxSize attributes q =
+    record {
+      live = 1;
+      attributes = attributes;
+      limit = limit;
+      maxSize = maxSize;
+      generation = q .generation;
+      pending = 0;
+      waiters = 0;
+      name = name;
+      reserved = replicate 4 0;
+    }
+
+-- "the record is zeroed but for its generation"
+abbrev pub freed : Queue → Queue
+freed q = freeQueue (q .generation)
 
 -- ---- Buffers
 

@@ -1,5 +1,23 @@
 -- Document 01, "Status numbers".
 use Rattle.ranks.specs.Prelude.{ℕ}
+use Rattle.records.specs.declared.status.RefusalStatus.{RefusalStatus}
+use Rattle.records.specs.declared.status.RefusalStatus.the-variants.{
+  InvalidName,
+  InvalidId,
+  InvalidSize,
+  InvalidNumber,
+  TooMany,
+  Unsatisfied,
+  InvalidNode,
+  Corrupt,
+  BadCaller,
+  IllegalOnRemoteObject,
+  NoBuffer,
+  InvalidOption,
+  BadShape,
+}
+use Rattle.records.specs.declared.status.Verdict.{Verdict}
+use Rattle.records.specs.declared.status.Verdict.the-variants.{Passed, Refused}
 
 abbrev pub SUCCESSFUL : ℕ
 SUCCESSFUL = 0
@@ -51,3 +69,24 @@ INVALID-OPTION = 15
 
 abbrev pub BAD-SHAPE : ℕ
 BAD-SHAPE = 16
+
+-- the number of a status that refuses a call
+abbrev pub statusNumber : RefusalStatus → ℕ
+statusNumber InvalidName = INVALID-NAME
+statusNumber InvalidId = INVALID-ID
+statusNumber InvalidSize = INVALID-SIZE
+statusNumber InvalidNumber = INVALID-NUMBER
+statusNumber TooMany = TOO-MANY
+statusNumber Unsatisfied = UNSATISFIED
+statusNumber InvalidNode = INVALID-NODE
+statusNumber Corrupt = CORRUPT
+statusNumber BadCaller = BAD-CALLER
+statusNumber IllegalOnRemoteObject = ILLEGAL-ON-REMOTE-OBJECT
+statusNumber NoBuffer = NO-BUFFER
+statusNumber InvalidOption = INVALID-OPTION
+statusNumber BadShape = BAD-SHAPE
+
+-- the number that a verdict gives: 0 where no test refuses the call
+abbrev pub verdictStatus : Verdict → ℕ
+verdictStatus Passed = SUCCESSFUL
+verdictStatus (Refused s) = statusNumber s

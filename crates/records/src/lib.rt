@@ -3,5 +3,6 @@ pub mod buffer; // buffer.rt: buffer records
 pub mod bytes; // bytes.rt: numbers and parts of a table as bytes
 pub mod queue; // queue.rt: queue records
 pub mod shares; // shares.rt: which share owns what
+pub mod status; // status.rt: statuses
 pub mod task; // task.rt: task records
 pub mod zeros; // zeros.rt: bytes that have to be zero

@@ -4,7 +4,7 @@ ghost use Prim.Native.Nat.{_*_, _<_};
 ghost use lib.ListN.{length};
 ghost use Rattle.ranks.specs.Table.{slice};
 ghost use Rattle.records.specs.Bytes.{decodeQueue, encodeQueue, decodeQueues};
-ghost use Rattle.records.specs.Changes.{changeAt, withPending, withWaiters, withGeneration};
+ghost use Rattle.records.specs.Changes.{changeAt, withPending, withWaiters, withGeneration, liveWith, freed};
 use crate::bytes::copy_into;
 use crate::bytes::read_u16;
 use crate::bytes::read_u32;
@@ -41,6 +41,36 @@ impl QueueRecord {
         ensures { λ r. ⌜ r ≡ withGeneration n self ⌝ }
     {
         self.generation = n;
+        self
+    }
+
+    // A live queue with no message and no waiter, and the record's generation.
+    pub fn live_with(mut self, name: u32, limit: u8, size: u8, attributes: u8) -> Self
+        ensures { λ r. ⌜ r ≡ liveWith name limit size attributes self ⌝ }
+    {
+        self.live = 1;
+        self.attributes = attributes;
+        self.limit = limit;
+        self.maxSize = size;
+        self.pending = 0;
+        self.waiters = 0;
+        self.name = name;
+        self.reserved = [0, 0, 0, 0];
+        self
+    }
+
+    // "the record is zeroed but for its generation"
+    pub fn freed(mut self) -> Self
+        ensures { λ r. ⌜ r ≡ freed self ⌝ }
+    {
+        self.live = 0;
+        self.attributes = 0;
+        self.limit = 0;
+        self.maxSize = 0;
+        self.pending = 0;
+        self.waiters = 0;
+        self.name = 0;
+        self.reserved = [0, 0, 0, 0];
         self
     }
 }

@@ -9,6 +9,8 @@ ghost use Rattle.records.specs.Changes.{changeAt, withMessage};
 ghost use Rattle.records.specs.TaskHeads.{headOf, withHead, readyHead, waitingHead, tickedHead};
 use crate::bytes::copy_into;
 use crate::bytes::read_u32;
+use crate::status::SUCCESSFUL;
+use crate::status::WAITING;
 
 // What stands before a task's receive buffer, but for its zero bytes 12 to 15.
 pub struct TaskHead {
@@ -42,7 +44,7 @@ impl TaskHead {
         self.state = 1;
         self.queue = queue;
         self.rank = rank;
-        self.status = 14;
+        self.status = WAITING;
         self.messageLength = 0;
         self.ticksLeft = ticks;
         self
@@ -120,7 +122,7 @@ fn deliver_to(r: &mut [u8], message: &[u8])
         0,
         0,
         r[3],
-        0,
+        SUCCESSFUL,
         message.len() as u8,
         r[6],
         r[7],

@@ -1,4 +1,4 @@
--- The tests of the tables give the same status after each record of a log as before it. Assumes nothing.
+-- The tests of the tables give the same verdict after each record of a log as before it. Assumes nothing.
 use Prim.Native.Nat.{ℕ, zero, suc, _+_, _^_, _≤_, _<_}
 use native.Mathlib.Nat.{pow-suc}
 use native.Mathlib.Omega.{arith}
@@ -12,8 +12,12 @@ use lib.Seq.{getD-take, getD-drop}
 use borrow.Author.Tests.{lt-ltb}
 use Rattle.ranks.specs.Lists.{if_then_else_, allTrue}
 use Rattle.ranks.specs.Table.{slice}
-use Rattle.ranks.proofs.Tests.{same?, lt-or-ge}
+use Rattle.ranks.proofs.Tests.{lt-or-ge}
 use Rattle.records.specs.Bytes.{Tables, fromLittleEndian}
+use Rattle.records.specs.Status.{statusNumber, verdictStatus}
+use Rattle.records.specs.declared.status.RefusalStatus.{RefusalStatus}
+use Rattle.records.specs.declared.status.Verdict.{Verdict}
+use Rattle.records.specs.declared.status.Verdict.the-variants.{Passed, Refused}
 use Rattle.specification.specs.Answer.{Outcome, firstStatus}
 use Rattle.specification.specs.Call.{Call, call, tick, argumentsInRange, directiveInRange, operationInRange}
 use Rattle.specification.specs.Step.{step}
@@ -101,31 +105,33 @@ record-in-range r s =
 
 -- ---- One record of a log
 
-module _ (t : Tables) {n : ℕ} (e : n ≡ firstStatus (tableRefusals t)) where
+module _ (t : Tables) where
   -- a call on tables that fail a test of their own changes nothing
-  unchanged : (c : Call) → (n ≡ 0 → ⊥) → t ≡ step t c .after
-  unchanged (call caller directive) ne = ap (λ (o : Outcome Tables). o .after) (refused-call t caller directive n (table-refused t e caller ne) ne)
-  unchanged tick ne = ap (λ (o : Outcome Tables). o .after) (tick-refused t e ne)
+  unchanged : (s : RefusalStatus) → statusNumber s ≡ firstStatus (tableRefusals t) → (c : Call) → t ≡ step t c .after
+  unchanged s e (call caller directive) = ap (λ (o : Outcome Tables). o .after) (refused-call t caller directive s (table-refused t s e caller))
+  unchanged s e tick = ap (λ (o : Outcome Tables). o .after) (tick-refused t s e)
 
-  -- a call on tables that passed them leaves sound tables
-  sound-still : Slice (t .queues) → Slice (t .pool) → Slice (t .tasks) → (c : Call) → argumentsInRange c ≡ true → n ≡ 0 → n ≡ firstStatus (tableRefusals (step t c .after))
-  unfolding firstStatus
-  sound-still bq bp bw c p z =
-      let ok = table-passed t e z in
-      let before : SoundTables t = record {
-        bytes = record { lengths = ok .0; queues = record { below = λ i _. bq i }; pool = record { below = λ i _. bp i }; tasks = record { below = λ i _. bw i } };
-        isSound = ok .1;
-      } in
-      let after = demand-2 .sound-stays t c before p in
-      rw (after .bytes .lengths, after .isSound) z
+  module _ (bq : Slice (t .queues)) (bp : Slice (t .pool)) (bw : Slice (t .tasks)) where
+    -- a call on tables that passed them leaves sound tables
+    sound-still : (c : Call) → argumentsInRange c ≡ true → 0 ≡ firstStatus (tableRefusals t) → 0 ≡ firstStatus (tableRefusals (step t c .after))
+    unfolding firstStatus
+    sound-still c p e =
+        let ok = table-passed t e in
+        let before : SoundTables t = record {
+          bytes = record { lengths = ok .0; queues = record { below = λ i _. bq i }; pool = record { below = λ i _. bp i }; tasks = record { below = λ i _. bw i } };
+          isSound = ok .1;
+        } in
+        let after = demand-2 .sound-stays t c before p in
+        rw (after .bytes .lengths, after .isSound)
 
-  pub status-stays : (r : List ℕ) → Slice (t .queues) → Slice (t .pool) → Slice (t .tasks) → Slice r → n ≡ firstStatus (tableRefusals (replayRecord t r .after))
-  unfolding replayRecord replayFound outcomeFor
-  status-stays r bq bp bw s = go (readRecord r) (record-in-range r s)
-    where
-      go : (f : LogResult) → InRange (drop 16 r) f → n ≡ firstStatus (tableRefusals (outcomeFor t f (drop 16 r) .after))
-      go (WellFormed c) p =
-          ⊎-elim (λ z. sound-still bq bp bw (callOf c (drop 16 r)) p z)
-          (λ ne. e ∙ ap (λ (x : Tables). firstStatus (tableRefusals x)) (unchanged (callOf c (drop 16 r)) ne)) (same? n 0)
-      go Malformed p = e
-      go End p = e
+    pub verdict-stays : (v : Verdict) → verdictStatus v ≡ firstStatus (tableRefusals t) → (r : List ℕ) → Slice r
+        → verdictStatus v ≡ firstStatus (tableRefusals (replayRecord t r .after))
+    unfolding replayRecord replayFound outcomeFor
+    verdict-stays v e r s = go v e (readRecord r) (record-in-range r s)
+      where
+        go : (v : Verdict) → verdictStatus v ≡ firstStatus (tableRefusals t) → (f : LogResult) → InRange (drop 16 r) f
+            → verdictStatus v ≡ firstStatus (tableRefusals (outcomeFor t f (drop 16 r) .after))
+        go Passed e (WellFormed c) p = sound-still (callOf c (drop 16 r)) p e
+        go (Refused s) e (WellFormed c) p = e ∙ ap (λ (x : Tables). firstStatus (tableRefusals x)) (unchanged s e (callOf c (drop 16 r)))
+        go v e Malformed p = e
+        go v e End p = e

@@ -3,7 +3,8 @@ use Rattle.ranks.specs.Prelude.{ℕ, _+_, _*_, _/_, _≤_, _<_, _≡_, Bool, tr
 use Rattle.ranks.specs.Lists.{if_then_else_}
 use Rattle.ranks.specs.Table.{byte, slice, records, spliced}
 use Rattle.records.specs.Bytes.{Tables}
-use Rattle.records.specs.Status.{BAD-SHAPE}
+use Rattle.records.specs.Status.{BAD-SHAPE, verdictStatus}
+use Rattle.records.specs.declared.status.Verdict.{Verdict}
 use Rattle.specification.specs.Answer.{Answer, Outcome, refuse, firstStatus}
 use Rattle.specification.specs.Call.{Directive, Call, create, ident, onQueue, delete, send, urgent, broadcast, receive, getNumberPending, flush, call, tick}
 use Rattle.specification.specs.Step.{step}
@@ -110,12 +111,12 @@ replayedInto t log lent =
 
 -- ---- For the code
 
--- the tables' own tests, 16 and 10, gave the status
-abbrev pub Tested : Tables → (status : ℕ) → Type 0
-Tested t status = status ≡ firstStatus (tableRefusals t)
+-- the tables' own tests, 16 and 10, gave the verdict
+abbrev pub Tested : Tables → Verdict → Type 0
+Tested t verdict = verdictStatus verdict ≡ firstStatus (tableRefusals t)
 
--- where the next record of a log is replayed: its place is not at the end, its answer record has room, and the tables' own tests gave the status
-pub record NextRecord (t : Tables) (status : ℕ) (log : List ℕ) (at : ℕ) (lent : List ℕ) (to : ℕ) : Type 0 where
+-- where the next record of a log is replayed: its place is not at the end, its answer record has room, and the tables' own tests gave the verdict
+pub record NextRecord (t : Tables) (verdict : Verdict) (log : List ℕ) (at : ℕ) (lent : List ℕ) (to : ℕ) : Type 0 where
   pub inside : at < length log
   pub room : to + 16 ≤ length lent
-  pub tested : Tested t status
+  pub tested : Tested t verdict

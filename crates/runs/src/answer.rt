@@ -1,5 +1,6 @@
 // The answer to what a reader found in a log.
 ghost use mathlib.Core.Path.{_≡_};
+ghost use Rattle.records.specs.Status.{verdictStatus};
 ghost use Rattle.specification.specs.Answer.{firstStatus};
 ghost use Rattle.specification.specs.Call.{call};
 ghost use Rattle.specification.specs.Step.{step};
@@ -15,8 +16,12 @@ use manager::answer::Answer;
 use manager::call::caller_refusal;
 use manager::call::table_refusal;
 use manager::clocktick::tick_after;
+use records::status::RefusalStatus;
+use records::status::SUCCESSFUL;
+use records::status::Verdict;
+use records::status::WAITING;
 
-// The tests 16, 10 and 11, the first two of which gave this status, then the directive.
+// The tests 16, 10 and 11, the first two of which gave this verdict, then the directive.
 fn answer_directive(
     queues: &mut [u8],
     pool: &mut [u8],
@@ -24,29 +29,29 @@ fn answer_directive(
     caller: u32,
     directive: Directive,
     field: &[u8],
-    status: u8,
+    verdict: Verdict,
 ) -> Answer
-    requires { ⌜ status ≡ firstStatus (tableRefusals (tables (now queues) (now pool) (now tasks))) ⌝ }
+    requires { ⌜ verdictStatus verdict ≡ firstStatus (tableRefusals (tables (now queues) (now pool) (now tasks))) ⌝ }
     ensures { λ r. ⌜ outcomeOf r (tables (now (queues .exit)) (now (pool .exit)) (now (tasks .exit)))
         ≡ step (tables (now (queues .entry)) (now (pool .entry)) (now (tasks .entry))) (call caller (directiveOf directive (now (field .entry)))) ⌝ }
 {
-    let refusal = caller_refusal(queues, pool, tasks, caller, status);
-    if refusal != 0 {
-        return Answer::Refused(refusal);
+    let refusal = caller_refusal(queues, pool, tasks, caller, verdict);
+    if let Verdict::Refused(status) = refusal {
+        return Answer::Refused(status);
     }
     perform(queues, pool, tasks, caller as usize, directive, field)
 }
 
-// A call or a tick, on tables whose own tests gave this status.
+// A call or a tick, on tables whose own tests gave this verdict.
 fn answer_call(
     queues: &mut [u8],
     pool: &mut [u8],
     tasks: &mut [u8],
     logged: Call,
     field: &[u8],
-    status: u8,
+    verdict: Verdict,
 ) -> Answer
-    requires { ⌜ status ≡ firstStatus (tableRefusals (tables (now queues) (now pool) (now tasks))) ⌝ }
+    requires { ⌜ verdictStatus verdict ≡ firstStatus (tableRefusals (tables (now queues) (now pool) (now tasks))) ⌝ }
     ensures { λ r. ⌜ outcomeOf r (tables (now (queues .exit)) (now (pool .exit)) (now (tasks .exit)))
         ≡ step (tables (now (queues .entry)) (now (pool .entry)) (now (tasks .entry))) (callOf logged (now (field .entry))) ⌝ }
 {
@@ -58,29 +63,31 @@ fn answer_call(
             word_of(caller),
             directive,
             field,
-            status,
+            verdict,
         ),
-        Call::Tick => tick_after(queues, pool, tasks, status),
+        Call::Tick => tick_after(queues, pool, tasks, verdict),
     }
 }
 
-// What a reader found, on tables whose own tests gave this status: a well-formed call is done, and anything else is 16.
+// What a reader found, on tables whose own tests gave this verdict: a well-formed call is done, and anything else is 16.
 pub fn answer(
     queues: &mut [u8],
     pool: &mut [u8],
     tasks: &mut [u8],
     found: LogResult,
     field: &[u8],
-    status: u8,
+    verdict: Verdict,
 ) -> Answer
-    requires { ⌜ status ≡ firstStatus (tableRefusals (tables (now queues) (now pool) (now tasks))) ⌝ }
+    requires { ⌜ verdictStatus verdict ≡ firstStatus (tableRefusals (tables (now queues) (now pool) (now tasks))) ⌝ }
     ensures { λ r. ⌜ outcomeOf r (tables (now (queues .exit)) (now (pool .exit)) (now (tasks .exit)))
         ≡ outcomeFor (tables (now (queues .entry)) (now (pool .entry)) (now (tasks .entry))) found (now (field .entry)) ⌝ }
 {
     match found {
-        LogResult::WellFormed(logged) => { answer_call(queues, pool, tasks, logged, field, status) }
-        LogResult::Malformed => Answer::Refused(16),
-        LogResult::End => Answer::Refused(16),
+        LogResult::WellFormed(logged) => {
+            answer_call(queues, pool, tasks, logged, field, verdict)
+        }
+        LogResult::Malformed => Answer::Refused(RefusalStatus::BadShape),
+        LogResult::End => Answer::Refused(RefusalStatus::BadShape),
     }
 }
 
@@ -95,8 +102,8 @@ pub fn answer_searching(
     ensures { λ r. ⌜ outcomeOf r (tables (now (queues .exit)) (now (pool .exit)) (now (tasks .exit)))
         ≡ outcomeFor (tables (now (queues .entry)) (now (pool .entry)) (now (tasks .entry))) found (now (field .entry)) ⌝ }
 {
-    let status = table_refusal(queues, pool, tasks);
-    answer(queues, pool, tasks, found, field, status)
+    let verdict = table_refusal(queues, pool, tasks);
+    answer(queues, pool, tasks, found, field, verdict)
 }
 
 // The answer record of a call with this first byte.
@@ -104,8 +111,8 @@ pub fn answer_record(a: Answer, firstByte: u8) -> [u8; 16]
     ensures { λ r. ⌜ r ≡ answerRecord (answerOf a) firstByte ⌝ }
 {
     match a {
-        Answer::Successful(value, woken) => answer_bytes(0, firstByte, value, woken),
-        Answer::Waiting => answer_bytes(14, firstByte, 0, 0),
-        Answer::Refused(status) => answer_bytes(status, firstByte, 0, 0),
+        Answer::Successful(value, woken) => answer_bytes(SUCCESSFUL, firstByte, value, woken),
+        Answer::Waiting => answer_bytes(WAITING, firstByte, 0, 0),
+        Answer::Refused(status) => answer_bytes(status.number(), firstByte, 0, 0),
     }
 }

@@ -10,6 +10,7 @@ use calllog::call::LogResult;
 use calllog::reader::read_at;
 use manager::call::table_refusal;
 use records::bytes::copy_into;
+use records::status::Verdict;
 
 // The message field of a record, which a short part may not have.
 pub fn message_field(part: &[u8]) -> &[u8]
@@ -22,24 +23,24 @@ pub fn message_field(part: &[u8]) -> &[u8]
     &part[16..]
 }
 
-// One record of a log, where the reader found this and the tests of the tables gave this status: its answer record.
+// One record of a log, where the reader found this and the tests of the tables gave this verdict: its answer record.
 fn replay_record(
     queues: &mut [u8],
     pool: &mut [u8],
     tasks: &mut [u8],
     found: LogResult,
     part: &[u8],
-    status: u8,
+    verdict: Verdict,
 ) -> [u8; 16]
-    requires { ⌜ (0 < length (now part)) × Tested (tables (now queues) (now pool) (now tasks)) status ⌝ }
+    requires { ⌜ (0 < length (now part)) × Tested (tables (now queues) (now pool) (now tasks)) verdict ⌝ }
     ensures { λ r. ⌜ (record { answers = r; after = tables (now (queues .exit)) (now (pool .exit)) (now (tasks .exit)) })
         ≡ replayFound (tables (now (queues .entry)) (now (pool .entry)) (now (tasks .entry))) found (now (part .entry)) ⌝ }
 {
-    let a = answer(queues, pool, tasks, found, message_field(part), status);
+    let a = answer(queues, pool, tasks, found, message_field(part), verdict);
     answer_record(a, part[0])
 }
 
-// What stands at the place that the reader has reached, on tables whose own tests gave this status: its answer record goes to place `to` of the lent
+// What stands at the place that the reader has reached, on tables whose own tests gave this verdict: its answer record goes to place `to` of the lent
 // bytes. The place that the reader moves on to.
 fn replay_at(
     queues: &mut [u8],
@@ -47,18 +48,18 @@ fn replay_at(
     tasks: &mut [u8],
     log: &[u8],
     at: usize,
-    status: u8,
+    verdict: Verdict,
     answers: &mut [u8],
     to: usize,
 ) -> usize
-    requires { ⌜ NextRecord (tables (now queues) (now pool) (now tasks)) status (now log) at (now answers) to ⌝ }
+    requires { ⌜ NextRecord (tables (now queues) (now pool) (now tasks)) verdict (now log) at (now answers) to ⌝ }
     ensures { λ r. ⌜ (record { next = r; answers = now (answers .exit); after = tables (now (queues .exit)) (now (pool .exit)) (now (tasks .exit)) })
         ≡ replayedAt (tables (now (queues .entry)) (now (pool .entry)) (now (tasks .entry))) (now (log .entry)) at (now (answers .entry)) to ⌝ }
 {
     let reading = read_at(log, at);
     let found = reading.result;
     let next = reading.next;
-    let a = replay_record(queues, pool, tasks, found, &log[at..next], status);
+    let a = replay_record(queues, pool, tasks, found, &log[at..next], verdict);
     copy_into(answers, to, &a);
     next
 }
@@ -80,11 +81,11 @@ fn replay_all(queues: &mut [u8], pool: &mut [u8], tasks: &mut [u8], log: &[u8], 
     ensures { λ _. ⌜ (record { answers = now (answers .exit); after = tables (now (queues .exit)) (now (pool .exit)) (now (tasks .exit)) })
         ≡ replayedFront (tables (now (queues .entry)) (now (pool .entry)) (now (tasks .entry))) (now (log .entry)) (now (answers .entry)) ⌝ }
 {
-    let status = table_refusal(queues, pool, tasks);
+    let verdict = table_refusal(queues, pool, tasks);
     let mut at = 0;
     let mut to = 0;
     while at < log.len() {
-        at = replay_at(queues, pool, tasks, log, at, status, answers, to);
+        at = replay_at(queues, pool, tasks, log, at, verdict, answers, to);
         to += 16;
     }
 }

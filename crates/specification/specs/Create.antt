@@ -1,10 +1,10 @@
 -- Document 01: "Create (name, limit, max size, attributes)".
-use Rattle.ranks.specs.Prelude.{ℕ, suc, _+_, Bool, not, List, [], _∷_, replicate, eqb, leb, ltb}
+use Rattle.ranks.specs.Prelude.{ℕ, suc, _+_, Bool, not, List, [], _∷_, eqb, leb, ltb}
 use Rattle.ranks.specs.Lists.{allTrue, findIndex}
 use Rattle.records.specs.Split.{shareOfSlot, shareLimit}
 use Rattle.records.specs.Layout.{slotCount, idOf}
 use Rattle.records.specs.Records.{Queue, State, limitAllowed, maxSizeAllowed, queueAt}
-use Rattle.records.specs.Changes.{changeAt}
+use Rattle.records.specs.Changes.{changeAt, withGeneration, liveWith}
 use Rattle.records.specs.Status.{SUCCESSFUL, INVALID-NAME, INVALID-SIZE, INVALID-NUMBER, TOO-MANY, UNSATISFIED, INVALID-OPTION}
 use Rattle.specification.specs.Answer.{Outcome, outcome, Refusal, _⇒_}
 use Rattle.specification.specs.Sound.{limits}
@@ -28,27 +28,16 @@ refusals s share name limit maxSize attributes =
     ∷ (ltb (shareLimit share) (limits s share + limit) ⇒ UNSATISFIED)
     ∷ []
 
--- a live queue with no message and no waiter
-abbrev pub newQueue : (generation name limit maxSize attributes : ℕ) → Queue
-newQueue generation name limit maxSize attributes =
-    record {
-      live = 1;
-      attributes = attributes;
-      limit = limit;
-      maxSize = maxSize;
-      generation = generation;
-      pending = 0;
-      waiters = 0;
-      name = name;
-      reserved = replicate 4 0;
-    }
+-- "raises its generation by one": the record with the next generation, and live
+abbrev pub newQueue : (name limit maxSize attributes : ℕ) → Queue → Queue
+newQueue name limit maxSize attributes q = liveWith name limit maxSize attributes (withGeneration (suc (q .generation)) q)
 
--- "raises its generation by one [...]. Value: the id."
+-- "Value: the id."
 unfoldable pub effect : State → (slot name limit maxSize attributes : ℕ) → Outcome State
 effect s slot name limit maxSize attributes =
     outcome SUCCESSFUL (idOf (suc (queueAt s slot .generation)) slot) 0
     (record {
-      queues = changeAt slot (λ q. newQueue (suc (q .generation)) name limit maxSize attributes) (s .queues);
+      queues = changeAt slot (newQueue name limit maxSize attributes) (s .queues);
       pool = s .pool;
       tasks = s .tasks;
     })

@@ -161,7 +161,7 @@ module _ (s : State) (g : SoundFacts s) where
       (and (ap not (not-newer s′ id here ns k)) d, (above, newer-grown s s′ up ns k))
     where
       new : Queue → Queue
-      new q = Create.newQueue (suc (q .generation)) name limit maxSize attributes
+      new = Create.newQueue name limit maxSize attributes
 
       s′ : State
       s′ = record { queues = mapWithIndex (atIndex slot new) (s .queues); pool = s .pool; tasks = s .tasks }

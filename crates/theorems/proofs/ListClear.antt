@@ -9,8 +9,8 @@ use lib.ListN.{length, getD}
 use borrow.Author.Tests.{ne-eqb}
 use Rattle.ranks.specs.Lists.{if_then_else_, mapWithIndex}
 use Rattle.ranks.specs.Position.{noQueue}
-use Rattle.records.specs.Records.{Queue, Buffer, Task, State, queueAt, bufferAt, taskAt, freeQueue, freeBuffer, freshTask, messageIn}
-use Rattle.records.specs.Changes.{atIndex, withPending, withWaiters, withMessage, readyWith}
+use Rattle.records.specs.Records.{Queue, Buffer, Task, State, queueAt, bufferAt, taskAt, freeBuffer, freshTask, messageIn}
+use Rattle.records.specs.Changes.{atIndex, freed, withPending, withWaiters, withMessage, readyWith}
 use Rattle.records.specs.Status.{OBJECT-WAS-DELETED}
 use Rattle.specification.specs.Lookup.{waitersOf, withoutWaiters, withoutMessages}
 use Rattle.theorems.specs.QueueLists.{contents, leaves, member, SameButPosition, OperationOnLists}
@@ -93,29 +93,26 @@ module _ {s : State} (g : SoundFacts s) (slot : ℕ) (slot< : slot < 16) where
 
   pub delete-lists : Sized (Delete.effect s slot .after)
       → OperationOnLists s slot (Delete.effect s slot) (leaves [] [] ws 0) (λ k w. if member k ws then readyWith OBJECT-WAS-DELETED w else w)
-      (λ q. freeQueue (q .generation))
+      freed
   unfolding Delete.effect
   delete-lists z′ =
       record {
         queue =
-            both-lists (all-removed g slot slot< s′ z′ clear refl refl refl) (all-left g slot slot< s′ z′ clear refl (readyWith OBJECT-WAS-DELETED) (λ w. refl) refl refl);
+            both-lists (all-removed g slot slot< s′ z′ freed refl refl refl) (all-left g slot slot< s′ z′ freed refl (readyWith OBJECT-WAS-DELETED) (λ w. refl) refl refl);
         others =
             λ i i< ne.
-            both-lists (other-messages g slot slot< s′ z′ clear refl refl i i< ne)
-            (other-waiters g slot slot< s′ z′ clear refl (readyWith OBJECT-WAS-DELETED) (λ w. refl) refl i i< ne);
+            both-lists (other-messages g slot slot< s′ z′ freed refl refl i i< ne)
+            (other-waiters g slot slot< s′ z′ freed refl (readyWith OBJECT-WAS-DELETED) (λ w. refl) refl i i< ne);
         status = refl;
         value = refl;
         woken = waiters-mask g slot slot<;
-        tasks = cleared-tasks g slot slot< s′ z′ clear refl (readyWith OBJECT-WAS-DELETED) (λ w. refl) refl;
-        queues = changed-queues g slot slot< s′ z′ clear clear refl (λ q. refl);
-        queued = λ b h free used. absurd (used (still-free g slot slot< s′ z′ clear refl refl b h free));
+        tasks = cleared-tasks g slot slot< s′ z′ freed refl (readyWith OBJECT-WAS-DELETED) (λ w. refl) refl;
+        queues = changed-queues g slot slot< s′ z′ freed freed refl (λ q. refl);
+        queued = λ b h free used. absurd (used (still-free g slot slot< s′ z′ freed refl refl b h free));
       }
     where
       s′ : State
       s′ = Delete.effect s slot .after
-
-      clear : Queue → Queue
-      clear q = freeQueue (q .generation)
 
   pub flush-lists : Sized (Flush.effect s slot .after)
       → OperationOnLists s slot (Flush.effect s slot) (leaves [] ws [] (length ms)) (λ k w. w) (λ q. q)

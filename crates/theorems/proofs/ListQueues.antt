@@ -73,7 +73,7 @@ module _ {s : State} (g : SoundFacts s) where
       let was : Free (queueAt s (Create.freeSlot s share)) =
       ⊎-elim (λ l. absurd (let a = l .live in let b = slot-found s (g .sized) share lt .0 in omega arith)) (λ f. f) (queue-rules _ (g .queue _ lt)) in
       let z′ = create-sound s g share name limit maxSize attributes n .sized in
-      let new : Queue → Queue = λ q. Create.newQueue (suc (q .generation)) name limit maxSize attributes in
+      let new : Queue → Queue = Create.newQueue name limit maxSize attributes in
       record {
         slot = Create.freeSlot s share;
         lowest = first-lowest _ (s .queues) (freeQueue 0) (omega (arith, g .sized .queues));

@@ -17,7 +17,7 @@ use Rattle.records.specs.Records.{Queue, Buffer, Task, State, queueAt, bufferAt
 use Rattle.specification.specs.Sound.{limits, soundQueue, soundBuffer, soundTask, taskRules}
 use Rattle.specification.specs.Answer.{Outcome}
 use Rattle.records.specs.Status.{OBJECT-WAS-DELETED}
-use Rattle.records.specs.Changes.{atIndex, readyWith}
+use Rattle.records.specs.Changes.{atIndex, freed, readyWith}
 use Rattle.specification.specs.Lookup.{withoutWaiters, withoutMessages}
 use Rattle.specification.specs.Create.{freeSlot, newQueue, refusals, effect}
 use Rattle.ranks.proofs.Lists.{at-mapped, length-mapped, sum-at, first-true, first-bound, holds}
@@ -79,7 +79,7 @@ unfolding Delete.effect withoutWaiters withoutMessages taskRules allZero
 delete-sound s g slot slot< =
     record {
       sized = sized′;
-      queue = CountChange.of-each s s′ g sized′ slot slot< clear refl (λ i q. soundQueue q ≡ true) (free-sound _ is-free) (g .queue);
+      queue = CountChange.of-each s s′ g sized′ slot slot< freed refl (λ i q. soundQueue q ≡ true) (free-sound _ is-free) (g .queue);
       limit =
           λ p h.
           let e = limits-at s′ s sized′ (g .sized) slot p (adds p slot (queueAt s slot)) slot< (λ i lt ne. other i lt ne)
@@ -102,11 +102,8 @@ delete-sound s g slot slot< =
       task = cleared-task s s′ g slot slot< (readyWith OBJECT-WAS-DELETED) (λ w. refl) rdy refl (ap (λ (q : Queue). q .waiters) here) other;
     }
   where
-    clear : Queue → Queue
-    clear q = freeQueue (q .generation)
-
     s′ : State
-    s′ = record { queues = mapWithIndex (atIndex slot clear) (s .queues); pool = withoutMessages slot (s .pool); tasks = withoutWaiters slot (readyWith OBJECT-WAS-DELETED) (s .tasks) }
+    s′ = record { queues = mapWithIndex (atIndex slot freed) (s .queues); pool = withoutMessages slot (s .pool); tasks = withoutWaiters slot (readyWith OBJECT-WAS-DELETED) (s .tasks) }
 
     sized′ : Sized s′
     sized′ =
@@ -117,12 +114,12 @@ delete-sound s g slot slot< =
         }
 
     other : (i : ℕ) → i < 16 → (i ≡ slot → ⊥) → queueAt s′ i ≡ queueAt s i
-    other = CountChange.other s s′ g sized′ slot slot< clear refl
+    other = CountChange.other s s′ g sized′ slot slot< freed refl
 
-    here : queueAt s′ slot ≡ clear (queueAt s slot)
-    here = CountChange.here s s′ g sized′ slot slot< clear refl
+    here : queueAt s′ slot ≡ freed (queueAt s slot)
+    here = CountChange.here s s′ g sized′ slot slot< freed refl
 
-    is-free : Free (freeQueue (queueAt s slot .generation))
+    is-free : Free (freed (queueAt s slot))
     is-free =
         record { live = refl; attributes = refl; limit = refl; maxSize = refl; pending = refl; waiters = refl; name = refl; reserved = refl }
 
@@ -148,7 +145,7 @@ module _ (s : State) (g : SoundFacts s) (slot name limit maxSize attributes : �
     (name≥ : 1 ≤ name) (attributes≤ : attributes ≤ 3) (limit≥ : 1 ≤ limit) (limit≤ : limit ≤ 16) (size≥ : 1 ≤ maxSize) (size≤ : maxSize ≤ 120)
     (argumentsInRange : limits s (shareOfSlot slot) + limit ≤ shareLimit (shareOfSlot slot)) where
   abbrev new : Queue → Queue
-  new q = newQueue (suc (q .generation)) name limit maxSize attributes
+  new = newQueue name limit maxSize attributes
 
   abbrev s′ : State
   s′ = record { queues = mapWithIndex (atIndex slot new) (s .queues); pool = s .pool; tasks = s .tasks }

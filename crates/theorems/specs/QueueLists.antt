@@ -7,8 +7,8 @@ use Rattle.ranks.specs.Position.{positionAt}
 use Rattle.ranks.specs.Steps.{byRank}
 use Rattle.records.specs.Split.{shareOfSlot, shareOfTask}
 use Rattle.records.specs.Layout.{slotCount, bufferCount, taskCount, slotOf, idOf}
-use Rattle.records.specs.Records.{Queue, Task, State, hasPriority, messageIn, freeQueue, queueAt, bufferAt, taskAt}
-use Rattle.records.specs.Changes.{atIndex, withCounts, withWaiters, withMessage, readyWith, waitingAt, moveTask, withTicks}
+use Rattle.records.specs.Records.{Queue, Task, State, hasPriority, messageIn, queueAt, bufferAt, taskAt}
+use Rattle.records.specs.Changes.{atIndex, withCounts, freed, withWaiters, withMessage, readyWith, waitingAt, moveTask, withTicks}
 use Rattle.records.specs.Bytes.{Tables, decode}
 use Rattle.records.specs.Status.{SUCCESSFUL, WAITING, OBJECT-WAS-DELETED, TIMEOUT}
 use Rattle.specification.specs.Answer.{Answer, Outcome}
@@ -96,7 +96,7 @@ taskAfter caller flush q k w = w
 
 -- the record of the queue, but for its counts; "the record is zeroed but for its generation"
 unfoldable pub queueAfter : Operation → Queue → Queue
-queueAfter delete q = freeQueue (q .generation)
+queueAfter delete q = freed q
 queueAfter (send message) q = q
 queueAfter (urgent message) q = q
 queueAfter (broadcast message) q = q
@@ -157,7 +157,7 @@ pub record CreateOnTables (s : State) (share name limit maxSize attributes : ℕ
   pub lowest : Lowest (λ i. isFreeSlot share i (queueAt s i)) slot
   pub answer : r .answer ≡ record { status = SUCCESSFUL; value = idOf (suc (queueAt s slot .generation)) slot; woken = 0 }
   pub queues : (i : ℕ) → i < slotCount
-      → queueAt (r .after) i ≡ atIndex slot (λ q. newQueue (suc (q .generation)) name limit maxSize attributes) i (queueAt s i)
+      → queueAt (r .after) i ≡ atIndex slot (newQueue name limit maxSize attributes) i (queueAt s i)
   pub pool : r .after .pool ≡ s .pool
   pub tasks : r .after .tasks ≡ s .tasks
   pub lists : (i : ℕ) → i < slotCount → contents (r .after) i ≡ contents s i

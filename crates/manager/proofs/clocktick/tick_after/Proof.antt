@@ -1,5 +1,6 @@
 -- `manager::clocktick::tick_after` meets its contract. Assumes nothing.
 use mathlib.Core.Path.{_∙_}
+use Rattle.records.proofs.Statuses.{tells}
 use Rattle.manager.specs.Outcomes.{tables}
 use Rattle.manager.proofs.Calls.{table-passed, tick-refused, tick-accepted}
 use borrow.Author.Needs.{needs}
@@ -8,20 +9,20 @@ use Rattle.manager.proofs.clocktick.tick_after.Tie as tie
 
 returns : tie.Need-returns
 returns c =
-    let s = c .before .before .before .before in
-    tick-refused (tables (s .args .queues .now) (s .args .pool .now) (s .args .tasks .now)) (s .pre) (c .if1 .taken)
+    let s = c .before .before .before .before .before .before in
+    tick-refused (tables (s .args .queues .now) (s .args .pool .now) (s .args .tasks .now)) _ (tells (c .before .verdict .given .1) (s .pre))
 
 tick-requires : tie.Need-tick-requires
 tick-requires c κs =
-    let s = c .before .before .before .before .before .before in
-    table-passed (tables (s .args .queues .now) (s .args .pool .now) (s .args .tasks .now)) (s .pre) (c .before .before .if1 .left)
+    let s = c .before .before .before .before .before .before .before in
+    table-passed (tables (s .args .queues .now) (s .args .pool .now) (s .args .tasks .now)) (tells (c .before .before .enum-told .given .1) (s .pre))
 
 returns-2 : tie.Need-returns-2
 returns-2 c =
-    let s = c .before .before .before .before .before .before .before .before .before .before .before in
+    let s = c .before .before .before .before .before .before .before .before .before .before .before .before in
     let t = tables (s .args .queues .now) (s .args .pool .now) (s .args .tasks .now) in
-    let ok = table-passed t (s .pre) (c .before .before .before .before .before .before .before .if1 .left) in
+    let ok = table-passed t (tells (c .before .before .before .before .before .before .before .enum-told .given .1) (s .pre)) in
     c .before .before .before .before .tick .ensures ∙ tick-accepted t (ok .0) (ok .1)
 
 pub tick-after-spec : {M : Type 1} → statement M
-tick-after-spec = tie.close (tie.spec returns tick-requires (search needs) (search needs) returns-2)
+tick-after-spec = tie.close (tie.spec (search needs) returns (search needs) tick-requires (search needs) (search needs) returns-2)

@@ -1,7 +1,8 @@
 -- `manager::msgqbroadcast::broadcast` meets its contract. Assumes nothing.
 use native.Mathlib.Omega.{arith}
-use mathlib.Core.Path.{refl, sym, _∙_}
+use mathlib.Core.Path.{refl}
 use Rattle.records.specs.Changes.{withWaiters}
+use Rattle.records.proofs.Statuses.{tells}
 use Rattle.specification.specs.Call.{broadcast}
 use Rattle.coremsg.proofs.Changed.{queue-written}
 use Rattle.manager.specs.Outcomes.{tables}
@@ -20,38 +21,38 @@ refusal-requires c κs = caller-ready _ _ _ _ (c .before .before .before .before
 
 returns : tie.Need-returns
 returns c =
-    let a = c .before .before .before .before .before .before .before .before .args in
+    let a = c .before .before .before .before .before .before .before .before .before .before .args in
     let t = tables (a .queues .now) (a .pool .now) (a .tasks .now) in
-    let q = c .before .before .read-queue in
+    let q = c .before .before .before .before .read-queue in
     refused-operation t (a .caller) (a .id) (broadcast (a .message .now)) (q .result) (q .ensures) (of-size t (a .caller) (a .id) (a .message .now) (q .result) (q .ensures))
-    (broadcast-tests t (a .caller) (a .id) (a .message .now) (q .result) (q .ensures)) _ (c .before .refusal .ensures) (c .if1 .taken)
+    (broadcast-tests t (a .caller) (a .id) (a .message .now) (q .result) (q .ensures)) _ (tells (c .before .verdict .given .1) (c .before .before .before .refusal .ensures))
 
 waiters-mask-requires : tie.Need-waiters-mask-requires
-waiters-mask-requires c κs = (omega arith, table-lengths _ _ _ _ (c .before .before .before .before .before .before .before .before .before .pre) .2)
+waiters-mask-requires c κs = (omega arith, table-lengths _ _ _ _ (c .before .before .before .before .before .before .before .before .before .before .pre) .2)
 
 deliver-to-all-requires : tie.Need-deliver-to-all-requires
 deliver-to-all-requires c κs =
-    let s = c .before .before .before .before .before .before .before .before .before .before .before in
+    let s = c .before .before .before .before .before .before .before .before .before .before .before .before in
     let a = s .args in
-    let q = c .before .before .before .before .before .read-queue in
-    (omega arith, (table-lengths _ _ _ _ (s .pre) .2, broadcast-size (tables (a .queues .now) (a .pool .now) (a .tasks .now)) (a .caller) (a .id) (a .message .now) (q .result) (q .ensures) (sym (c .before .before .before .if1 .left) ∙ c .before .before .before .before .refusal .ensures) (facts _ _ _ _ (s .pre))))
+    let q = c .before .before .before .before .before .before .read-queue in
+    (omega arith, (table-lengths _ _ _ _ (s .pre) .2, broadcast-size (tables (a .queues .now) (a .pool .now) (a .tasks .now)) (a .caller) (a .id) (a .message .now) (q .result) (q .ensures) (tells (c .before .before .before .enum-told .given .1) (c .before .before .before .before .before .refusal .ensures)) (facts _ _ _ _ (s .pre))))
 
 write-queue-requires : tie.Need-write-queue-requires
-write-queue-requires c κs = (omega arith, table-lengths _ _ _ _ (c .before .before .before .before .before .before .before .before .before .before .before .before .before .before .before .before .pre) .0)
+write-queue-requires c κs = (omega arith, table-lengths _ _ _ _ (c .before .before .before .before .before .before .before .before .before .before .before .before .before .before .before .before .before .pre) .0)
 
 returns-2 : tie.Need-returns-2
 returns-2 c =
-    let s = c .before .before .before .before .before .before .before .before .before .before .before .before .before .before .before .before .before .before .before in
+    let s = c .before .before .before .before .before .before .before .before .before .before .before .before .before .before .before .before .before .before .before .before in
     let a = s .args in
-    let q = c .before .before .before .before .before .before .before .before .before .before .before .before .before .read-queue in
+    let q = c .before .before .before .before .before .before .before .before .before .before .before .before .before .before .read-queue in
     let woken = c .before .before .before .before .before .before .before .before .before .waiters-mask in
     let delivered = c .before .before .before .before .before .before .before .deliver-to-all in
     let made = c .before .before .before .with-waiters in
     let written = c .before .before .write-queue in
-    broadcast-done (tables (a .queues .now) (a .pool .now) (a .tasks .now)) (a .caller) (a .id) (a .message .now) (q .result) (q .ensures) (sym (c .before .before .before .before .before .before .before .before .before .before .before .if1 .left) ∙ c .before .before .before .before .before .before .before .before .before .before .before .before .refusal .ensures)
+    broadcast-done (tables (a .queues .now) (a .pool .now) (a .tasks .now)) (a .caller) (a .id) (a .message .now) (q .result) (q .ensures) (tells (c .before .before .before .before .before .before .before .before .before .before .before .enum-told .given .1) (c .before .before .before .before .before .before .before .before .before .before .before .before .before .refusal .ensures))
     (written .last .0) (delivered .last .0) (woken .result) (woken .ensures)
     (queue-written (a .queues .now) _ _ (omega arith) (q .result) (made .result) (withWaiters 0) (q .ensures) (made .ensures) (written .ensures)) (delivered .ensures)
-    (as-encoded _ _ _ (a .caller) (s .pre) _ _ _ (written .kept .0) refl (delivered .kept .0) (λ i. c .slice-known4 .given i .fits) (λ i. c .before .before .before .before .before .before .before .before .before .before .before .before .before .before .before .before .before .shared-slice-known .given i .fits) (λ i. c .before .before .before .before .before .slice-known3 .given i .fits))
+    (as-encoded _ _ _ (a .caller) (s .pre) _ _ _ (written .kept .0) refl (delivered .kept .0) (λ i. c .slice-known4 .given i .fits) (λ i. c .before .before .before .before .before .before .before .before .before .before .before .before .before .before .before .before .before .before .shared-slice-known .given i .fits) (λ i. c .before .before .before .before .before .slice-known3 .given i .fits))
 
 pub broadcast-spec : {M : Type 1} → statement M
-broadcast-spec = tie.close (tie.spec (search needs) read-queue-requires refusal-requires (search needs) returns waiters-mask-requires deliver-to-all-requires (search needs) write-queue-requires (search needs) (search needs) returns-2)
+broadcast-spec = tie.close (tie.spec (search needs) read-queue-requires refusal-requires (search needs) (search needs) returns (search needs) waiters-mask-requires deliver-to-all-requires (search needs) write-queue-requires (search needs) (search needs) returns-2)

@@ -1,10 +1,11 @@
 -- `manager::msgqcreate::create` meets its contract. Assumes nothing.
 use Prim.Native.Nat.{ℕ, _<_}
 use native.Mathlib.Omega.{arith}
-use mathlib.Core.Path.{refl, sym, subst, _∙_}
+use mathlib.Core.Path.{refl, sym, subst}
 use Rattle.records.specs.Bytes.{Tables}
 use Rattle.manager.specs.Outcomes.{tables}
 use Rattle.records.proofs.Tabled.{task-share-below}
+use Rattle.records.proofs.Statuses.{tells}
 use Rattle.manager.proofs.Outcomes.{caller-ready, table-lengths, as-encoded}
 use Rattle.manager.proofs.Creates.{refused-create, in-range, not-spent, created, queues-sound}
 use borrow.Author.Needs.{needs}
@@ -27,39 +28,39 @@ refusal-requires c κs =
 
 returns : tie.Need-returns
 returns c =
-    let a = c .before .before .before .before .before .before .before .before .before .args in
+    let a = c .before .before .before .before .before .before .before .before .before .before .before .args in
     refused-create (tables (a .queues .now) (a .pool .now) (a .tasks .now)) (a .caller) (a .name) (a .limit) (a .size) (a .attributes)
-    _ (c .before .before .before .before .before .share-of-task .ensures) _ (c .before .refusal .ensures) (c .if1 .taken)
+    _ (c .before .before .before .before .before .before .before .share-of-task .ensures) _ (tells (c .before .verdict .given .1) (c .before .before .before .refusal .ensures))
 
 cast-create-in : tie.Need-cast-create-in
 cast-create-in c =
-    let a = c .before .before .before .before .before .before .before .before .before .before .args in
+    let a = c .before .before .before .before .before .before .before .before .before .before .before .args in
     let small = in-range (tables (a .queues .now) (a .pool .now) (a .tasks .now)) (a .caller) (a .name) (a .limit) (a .size) (a .attributes)
-    _ (c .before .before .before .before .before .before .share-of-task .ensures) (sym (c .before .if1 .left) ∙ c .before .before .refusal .ensures) _ (c .before .before .before .before .free-slot .ensures) in
+    _ (c .before .before .before .before .before .before .before .share-of-task .ensures) (tells (c .before .enum-told .given .1) (c .before .before .before .refusal .ensures)) _ (c .before .before .before .before .before .free-slot .ensures) in
     omega (arith, small .1)
 
 cast-create-in-2 : tie.Need-cast-create-in-2
 cast-create-in-2 c =
-    let a = c .before .before .before .before .before .before .before .before .before .before .args in
+    let a = c .before .before .before .before .before .before .before .before .before .before .before .args in
     let small = in-range (tables (a .queues .now) (a .pool .now) (a .tasks .now)) (a .caller) (a .name) (a .limit) (a .size) (a .attributes)
-    _ (c .before .before .before .before .before .before .share-of-task .ensures) (sym (c .before .if1 .left) ∙ c .before .before .refusal .ensures) _ (c .before .before .before .before .free-slot .ensures) in
+    _ (c .before .before .before .before .before .before .before .share-of-task .ensures) (tells (c .before .enum-told .given .1) (c .before .before .before .refusal .ensures)) _ (c .before .before .before .before .before .free-slot .ensures) in
     omega (arith, small .2)
 
 cast-create-in-3 : tie.Need-cast-create-in-3
 cast-create-in-3 c =
-    let a = c .before .before .before .before .before .before .before .before .before .before .args in
+    let a = c .before .before .before .before .before .before .before .before .before .before .before .args in
     let small = in-range (tables (a .queues .now) (a .pool .now) (a .tasks .now)) (a .caller) (a .name) (a .limit) (a .size) (a .attributes)
-    _ (c .before .before .before .before .before .before .share-of-task .ensures) (sym (c .before .if1 .left) ∙ c .before .before .refusal .ensures) _ (c .before .before .before .before .free-slot .ensures) in
+    _ (c .before .before .before .before .before .before .before .share-of-task .ensures) (tells (c .before .enum-told .given .1) (c .before .before .before .refusal .ensures)) _ (c .before .before .before .before .before .free-slot .ensures) in
     omega (arith, small .0)
 
 create-in-requires : tie.Need-create-in-requires
 create-in-requires c κs =
-    let s = c .before .before .before .before .before .before .before .before .before .before in
+    let s = c .before .before .before .before .before .before .before .before .before .before .before in
     let a = s .args in
     let t : Tables = tables (a .queues .now) (a .pool .now) (a .tasks .now) in
-    let own = c .before .before .before .before .before .before .share-of-task .ensures in
-    let passed = sym (c .before .if1 .left) ∙ c .before .before .refusal .ensures in
-    let found = c .before .before .before .before .free-slot .ensures in (
+    let own = c .before .before .before .before .before .before .before .share-of-task .ensures in
+    let passed = tells (c .before .enum-told .given .1) (c .before .before .before .refusal .ensures) in
+    let found = c .before .before .before .before .before .free-slot .ensures in (
       table-lengths _ _ _ _ (s .pre) .0,
       (
         in-range t (a .caller) (a .name) (a .limit) (a .size) (a .attributes) _ own passed _ found .3,
@@ -69,27 +70,14 @@ create-in-requires c κs =
 
 returns-2 : tie.Need-returns-2
 returns-2 c =
-    let s = c .before .before .before .before .before .before .before .before .before .before .before .before .before in
+    let s = c .before .before .before .before .before .before .before .before .before .before .before .before .before .before in
     let a = s .args in
     let done = c .before .before .create-in in
     created (tables (a .queues .now) (a .pool .now) (a .tasks .now)) (a .caller) (a .name) (a .limit) (a .size) (a .attributes)
-    _ (c .before .before .before .before .before .before .before .before .before .share-of-task .ensures) (sym (c .before .before .before .before .if1 .left) ∙ c .before .before .before .before .before .refusal .ensures) _ (c .before .before .before .before .before .before .before .free-slot .ensures)
+    _ (c .before .before .before .before .before .before .before .before .before .before .share-of-task .ensures) (tells (c .before .before .before .before .enum-told .given .1) (c .before .before .before .before .before .before .refusal .ensures)) _ (c .before .before .before .before .before .before .before .before .free-slot .ensures)
     (done .result) (done .last .0) (done .ensures .0) (done .ensures .1)
     (as-encoded _ _ _ (a .caller) (s .pre) _ _ _ (done .kept .0) refl refl (λ i. c .slice-known2 .given i .fits)
-    (λ i. c .before .before .before .before .before .before .before .before .before .before .before .shared-slice-known .given i .fits) (λ i. c .before .before .before .before .before .before .before .before .before .before .shared-slice-known2 .given i .fits))
+    (λ i. c .before .before .before .before .before .before .before .before .before .before .before .before .shared-slice-known .given i .fits) (λ i. c .before .before .before .before .before .before .before .before .before .before .before .shared-slice-known2 .given i .fits))
 
 pub create-spec : {M : Type 1} → statement M
-create-spec =
-    tie.close
-    (tie.spec
-    share-of-task-requires
-    free-slot-requires
-    refusal-requires
-    (search needs)
-    returns
-    cast-create-in
-    cast-create-in-2
-    cast-create-in-3
-    create-in-requires
-    (search needs)
-    returns-2)
+create-spec = tie.close (tie.spec share-of-task-requires free-slot-requires refusal-requires (search needs) (search needs) returns (search needs) cast-create-in cast-create-in-2 cast-create-in-3 create-in-requires (search needs) returns-2)

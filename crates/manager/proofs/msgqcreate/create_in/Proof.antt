@@ -1,13 +1,14 @@
 -- `manager::msgqcreate::create_in` meets its contract. Assumes nothing.
-use Prim.Native.Nat.{ℕ, _+_}
+use Prim.Native.Nat.{ℕ, suc}
+use native.Mathlib.Numerals.{add-one}
 use native.Mathlib.Omega.{arith}
 use mathlib.Core.Path.{ap, _∙_}
 use Rattle.records.specs.Layout.{idOf}
-use Rattle.records.specs.Records.{Queue, freeQueue}
-use Rattle.records.specs.Bytes.{decodeQueue}
+use Rattle.records.specs.Records.{Queue}
+use Rattle.records.specs.Changes.{withGeneration, liveWith}
 use Rattle.specification.specs.Create.{newQueue}
+use Rattle.coremsg.proofs.Changed.{queue-written}
 use Rattle.manager.specs.declared.answer.Answer.the-variants.{Successful}
-use Rattle.records.proofs.Writing.{changed-as}
 use borrow.Author.Needs.{needs}
 use Rattle.manager.proofs.msgqcreate.create_in.Statement.{statement}
 use Rattle.manager.proofs.msgqcreate.create_in.Tie as tie
@@ -20,15 +21,15 @@ add-generation c =
 
 returns : tie.Need-returns
 returns c =
-    let s = c .before .before .before .before .before .before .before .before .before .before in
+    let s = c .before .before .before .before .before .before .before .before .before .before .before in
     let a = s .args in
-    let q = c .before .before .before .before .before .before .before .read-queue in
-    let made = c .before .before .before .before .new-queue in
-    let generation = ap (λ (x : Queue). x .generation + 1) (q .ensures) in (
-      ap (λ (k : ℕ). Successful k 0) (c .id-of .ensures ∙ ap (λ (g : ℕ). idOf g (a .slot)) generation),
-      c .before .before .before .write-queue .ensures
-          ∙ changed-as decodeQueue 16 16 (a .queues .now) (a .slot) (s .pre .1 .0) (freeQueue 0) (λ _. made .result) (λ x. newQueue (x .generation + 1) (a .name) (a .limit) (a .size) (a .attributes))
-          (made .ensures ∙ ap (λ (g : ℕ). newQueue g (a .name) (a .limit) (a .size) (a .attributes)) generation),
+    let q = c .before .before .before .before .before .before .before .before .read-queue in
+    let raised = c .before .before .before .before .before .with-generation in
+    let made = c .before .before .before .before .live-with in (
+      ap (λ (k : ℕ). Successful k 0) (c .id-of .ensures ∙ ap (λ (g : ℕ). idOf g (a .slot)) (add-one _ ∙ ap (λ (x : Queue). suc (x .generation)) (q .ensures))),
+      queue-written (a .queues .now) _ (a .slot) (s .pre .1 .0) (q .result) (made .result) (newQueue (a .name) (a .limit) (a .size) (a .attributes)) (q .ensures)
+          (made .ensures ∙ ap (liveWith (a .name) (a .limit) (a .size) (a .attributes)) (raised .ensures ∙ ap (λ (g : ℕ). withGeneration g (q .result)) (add-one _)))
+          (c .before .before .before .write-queue .ensures),
     )
 
 pub create-in-spec : {M : Type 1} → statement M
@@ -37,6 +38,7 @@ create-in-spec =
     (tie.spec
     (search needs)
     add-generation
+    (search needs)
     (search needs)
     (search needs)
     (search needs)

@@ -1,7 +1,8 @@
 -- `manager::msgqdelete::delete` meets its contract. Assumes nothing.
 use native.Mathlib.Omega.{arith}
-use mathlib.Core.Path.{refl, sym, _∙_}
-use Rattle.records.specs.Records.{freeQueue}
+use mathlib.Core.Path.{refl}
+use Rattle.records.specs.Changes.{freed}
+use Rattle.records.proofs.Statuses.{tells}
 use Rattle.specification.specs.Call.{delete}
 use Rattle.specification.specs.Delete
 use Rattle.specification.specs.Step.{operationRefusals}
@@ -23,37 +24,37 @@ owner-refusal-requires c κs = caller-ready _ _ _ _ (c .before .before .before .
 returns : tie.Need-returns
 unfolding operationRefusals Delete.refusals
 returns c =
-    let a = c .before .before .before .before .before .before .before .args in
+    let a = c .before .before .before .before .before .before .before .before .before .args in
     let t = tables (a .queues .now) (a .pool .now) (a .tasks .now) in
-    let q = c .before .before .read-queue in
-    refused-operation t (a .caller) (a .id) delete (q .result) (q .ensures) (of-owner t (a .caller) (a .id) (q .result) (q .ensures)) refl _ (c .before .owner-refusal .ensures) (c .if1 .taken)
+    let q = c .before .before .before .before .read-queue in
+    refused-operation t (a .caller) (a .id) delete (q .result) (q .ensures) (of-owner t (a .caller) (a .id) (q .result) (q .ensures)) refl _ (tells (c .before .verdict .given .1) (c .before .before .before .owner-refusal .ensures))
 
 waiters-mask-requires : tie.Need-waiters-mask-requires
-waiters-mask-requires c κs = (omega arith, table-lengths _ _ _ _ (c .before .before .before .before .before .before .before .before .pre) .2)
+waiters-mask-requires c κs = (omega arith, table-lengths _ _ _ _ (c .before .before .before .before .before .before .before .before .before .pre) .2)
 
 ready-all-requires : tie.Need-ready-all-requires
-ready-all-requires c κs = (omega arith, table-lengths _ _ _ _ (c .before .before .before .before .before .before .before .before .before .before .pre) .2)
+ready-all-requires c κs = (omega arith, table-lengths _ _ _ _ (c .before .before .before .before .before .before .before .before .before .before .before .pre) .2)
 
 clear-messages-requires : tie.Need-clear-messages-requires
-clear-messages-requires c κs = (omega arith, table-lengths _ _ _ _ (c .before .before .before .before .before .before .before .before .before .before .before .before .before .before .pre) .1)
+clear-messages-requires c κs = (omega arith, table-lengths _ _ _ _ (c .before .before .before .before .before .before .before .before .before .before .before .before .before .before .before .pre) .1)
 
 write-queue-requires : tie.Need-write-queue-requires
-write-queue-requires c κs = (omega arith, table-lengths _ _ _ _ (c .before .before .before .before .before .before .before .before .before .before .before .before .before .before .before .before .before .before .before .pre) .0)
+write-queue-requires c κs = (omega arith, table-lengths _ _ _ _ (c .before .before .before .before .before .before .before .before .before .before .before .before .before .before .before .before .before .before .before .before .pre) .0)
 
 returns-2 : tie.Need-returns-2
 returns-2 c =
-    let s = c .before .before .before .before .before .before .before .before .before .before .before .before .before .before .before .before .before .before .before .before .before .before in
+    let s = c .before .before .before .before .before .before .before .before .before .before .before .before .before .before .before .before .before .before .before .before .before .before .before in
     let a = s .args in
-    let q = c .before .before .before .before .before .before .before .before .before .before .before .before .before .before .before .before .before .read-queue in
+    let q = c .before .before .before .before .before .before .before .before .before .before .before .before .before .before .before .before .before .before .read-queue in
     let woken = c .before .before .before .before .before .before .before .before .before .before .before .before .before .waiters-mask in
     let readied = c .before .before .before .before .before .before .before .before .before .before .before .ready-all in
     let cleared = c .before .before .before .before .before .before .before .clear-messages in
-    let made = c .before .before .before .free-queue in
+    let made = c .before .before .before .freed in
     let written = c .before .before .write-queue in
-    delete-done (tables (a .queues .now) (a .pool .now) (a .tasks .now)) (a .caller) (a .id) (q .result) (q .ensures) (sym (c .before .before .before .before .before .before .before .before .before .before .before .before .before .before .before .if1 .left) ∙ c .before .before .before .before .before .before .before .before .before .before .before .before .before .before .before .before .owner-refusal .ensures)
+    delete-done (tables (a .queues .now) (a .pool .now) (a .tasks .now)) (a .caller) (a .id) (q .result) (q .ensures) (tells (c .before .before .before .before .before .before .before .before .before .before .before .before .before .before .before .enum-told .given .1) (c .before .before .before .before .before .before .before .before .before .before .before .before .before .before .before .before .before .owner-refusal .ensures))
     (written .last .0) (cleared .last .0) (cleared .ensures) (readied .last .0) (woken .result) (woken .ensures)
-    (queue-written (a .queues .now) _ _ (omega arith) (q .result) (made .result) (λ x. freeQueue (x .generation)) (q .ensures) (made .ensures) (written .ensures)) (readied .ensures)
+    (queue-written (a .queues .now) _ _ (omega arith) (q .result) (made .result) freed (q .ensures) (made .ensures) (written .ensures)) (readied .ensures)
     (as-encoded _ _ _ (a .caller) (s .pre) _ _ _ (written .kept .0) (cleared .kept .0) (readied .kept .0) (λ i. c .slice-known6 .given i .fits) (λ i. c .before .before .before .before .before .slice-known5 .given i .fits) (λ i. c .before .before .before .before .before .before .before .before .before .slice-known4 .given i .fits))
 
 pub delete-spec : {M : Type 1} → statement M
-delete-spec = tie.close (tie.spec (search needs) read-queue-requires owner-refusal-requires (search needs) returns waiters-mask-requires ready-all-requires clear-messages-requires (search needs) write-queue-requires (search needs) (search needs) (search needs) returns-2)
+delete-spec = tie.close (tie.spec (search needs) read-queue-requires owner-refusal-requires (search needs) (search needs) returns (search needs) waiters-mask-requires ready-all-requires clear-messages-requires (search needs) write-queue-requires (search needs) (search needs) (search needs) returns-2)

@@ -1,7 +1,8 @@
 -- `manager::msgqflush::flush` meets its contract. Assumes nothing.
 use native.Mathlib.Omega.{arith}
-use mathlib.Core.Path.{refl, sym, _∙_}
+use mathlib.Core.Path.{refl}
 use Rattle.records.specs.Changes.{withPending}
+use Rattle.records.proofs.Statuses.{tells}
 use Rattle.specification.specs.Call.{flush}
 use Rattle.specification.specs.Flush
 use Rattle.specification.specs.Step.{operationRefusals}
@@ -23,28 +24,28 @@ owner-refusal-requires c κs = caller-ready _ _ _ _ (c .before .before .before .
 returns : tie.Need-returns
 unfolding operationRefusals Flush.refusals
 returns c =
-    let a = c .before .before .before .before .before .before .before .args in
+    let a = c .before .before .before .before .before .before .before .before .before .args in
     let t = tables (a .queues .now) (a .pool .now) (a .tasks .now) in
-    let q = c .before .before .read-queue in
-    refused-operation t (a .caller) (a .id) flush (q .result) (q .ensures) (of-owner t (a .caller) (a .id) (q .result) (q .ensures)) refl _ (c .before .owner-refusal .ensures) (c .if1 .taken)
+    let q = c .before .before .before .before .read-queue in
+    refused-operation t (a .caller) (a .id) flush (q .result) (q .ensures) (of-owner t (a .caller) (a .id) (q .result) (q .ensures)) refl _ (tells (c .before .verdict .given .1) (c .before .before .before .owner-refusal .ensures))
 
 clear-messages-requires : tie.Need-clear-messages-requires
-clear-messages-requires c κs = (omega arith, table-lengths _ _ _ _ (c .before .before .before .before .before .before .before .before .pre) .1)
+clear-messages-requires c κs = (omega arith, table-lengths _ _ _ _ (c .before .before .before .before .before .before .before .before .before .pre) .1)
 
 write-queue-requires : tie.Need-write-queue-requires
-write-queue-requires c κs = (omega arith, table-lengths _ _ _ _ (c .before .before .before .before .before .before .before .before .before .before .before .before .before .pre) .0)
+write-queue-requires c κs = (omega arith, table-lengths _ _ _ _ (c .before .before .before .before .before .before .before .before .before .before .before .before .before .before .pre) .0)
 
 returns-2 : tie.Need-returns-2
 returns-2 c =
-    let s = c .before .before .before .before .before .before .before .before .before .before .before .before .before .before .before .before .before in
+    let s = c .before .before .before .before .before .before .before .before .before .before .before .before .before .before .before .before .before .before in
     let a = s .args in
-    let q = c .before .before .before .before .before .before .before .before .before .before .before .before .read-queue in
+    let q = c .before .before .before .before .before .before .before .before .before .before .before .before .before .read-queue in
     let cleared = c .before .before .before .before .before .before .before .before .clear-messages in
     let made = c .before .before .before .before .with-pending in
     let written = c .before .before .before .write-queue in
-    flush-done (tables (a .queues .now) (a .pool .now) (a .tasks .now)) (a .caller) (a .id) (q .result) (q .ensures) (sym (c .before .before .before .before .before .before .before .before .before .before .if1 .left) ∙ c .before .before .before .before .before .before .before .before .before .before .before .owner-refusal .ensures)
+    flush-done (tables (a .queues .now) (a .pool .now) (a .tasks .now)) (a .caller) (a .id) (q .result) (q .ensures) (tells (c .before .before .before .before .before .before .before .before .before .before .enum-told .given .1) (c .before .before .before .before .before .before .before .before .before .before .before .before .owner-refusal .ensures))
     (written .last .0) (cleared .last .0) (cleared .ensures) (queue-written (a .queues .now) _ _ (omega arith) (q .result) (made .result) (withPending 0) (q .ensures) (made .ensures) (written .ensures))
-    (as-encoded _ _ _ (a .caller) (s .pre) _ _ _ (written .kept .0) (cleared .kept .0) refl (λ i. c .before .slice-known4 .given i .fits) (λ i. c .before .before .before .before .before .before .slice-known3 .given i .fits) (λ i. c .before .before .before .before .before .before .before .before .before .before .before .before .before .before .shared-slice-known .given i .fits))
+    (as-encoded _ _ _ (a .caller) (s .pre) _ _ _ (written .kept .0) (cleared .kept .0) refl (λ i. c .before .slice-known4 .given i .fits) (λ i. c .before .before .before .before .before .before .slice-known3 .given i .fits) (λ i. c .before .before .before .before .before .before .before .before .before .before .before .before .before .before .before .shared-slice-known .given i .fits))
 
 pub flush-spec : {M : Type 1} → statement M
-flush-spec = tie.close (tie.spec (search needs) read-queue-requires owner-refusal-requires (search needs) returns clear-messages-requires (search needs) write-queue-requires (search needs) (search needs) (search needs) returns-2)
+flush-spec = tie.close (tie.spec (search needs) read-queue-requires owner-refusal-requires (search needs) (search needs) returns (search needs) clear-messages-requires (search needs) write-queue-requires (search needs) (search needs) (search needs) returns-2)

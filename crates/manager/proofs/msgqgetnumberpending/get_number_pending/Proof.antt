@@ -4,6 +4,7 @@ use mathlib.Core.Path.{refl, sym, ap, _∙_}
 use mathlib.Core.Bool.{not}
 use mathlib.Core.List.{[]}
 use borrow.Author.Tests.{not-true, not-false}
+use Rattle.records.specs.declared.status.RefusalStatus.the-variants.{InvalidId}
 use Rattle.specification.specs.Answer.{firstStatus}
 use Rattle.specification.specs.Call.{getNumberPending}
 use Rattle.specification.specs.Step.{operationRefusals}
@@ -26,8 +27,8 @@ unfolding operationRefusals firstStatus
 returns c =
     let a = c .before .before .before .before .before .before .args in
     let q = c .before .before .read-queue in
-    refused-operation (tables (a .queues .now) (a .pool .now) (a .tasks .now)) (a .caller) (a .id) getNumberPending (q .result) (q .ensures) [] refl 2
-    (rw (sym (c .before .usable .ensures) ∙ not-true (c .before .usable .result) (c .if1 .taken))) (λ z. omega (arith, z))
+    refused-operation (tables (a .queues .now) (a .pool .now) (a .tasks .now)) (a .caller) (a .id) getNumberPending (q .result) (q .ensures) [] refl InvalidId
+    (rw (sym (c .before .usable .ensures) ∙ not-true (c .before .usable .result) (c .if1 .taken)))
 
 returns-2 : tie.Need-returns-2
 returns-2 c =

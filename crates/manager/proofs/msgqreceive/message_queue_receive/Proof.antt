@@ -1,5 +1,6 @@
 -- `manager::msgqreceive::message_queue_receive` meets its contract. Assumes nothing.
-use mathlib.Core.Path.{sym, _∙_}
+use mathlib.Core.Path.{_∙_}
+use Rattle.records.proofs.Statuses.{tells}
 use Rattle.specification.specs.Call.{onQueue, receive}
 use Rattle.manager.specs.Outcomes.{tables}
 use Rattle.manager.proofs.Calls.{refused-call, callable, accepted-call}
@@ -9,30 +10,18 @@ use Rattle.manager.proofs.msgqreceive.message_queue_receive.Tie as tie
 
 returns : tie.Need-returns
 returns c =
-    let a = c .before .before .before .before .before .before .before .before .args in
-    refused-call (tables (a .queues .now) (a .pool .now) (a .tasks .now)) (a .caller) (onQueue (a .id) (receive (a .option) (a .ticks))) _ (c .before .call-refusal .ensures) (c .if1 .taken)
+    let a = c .before .before .before .before .before .before .before .before .before .before .args in
+    refused-call (tables (a .queues .now) (a .pool .now) (a .tasks .now)) (a .caller) (onQueue (a .id) (receive (a .option) (a .ticks))) _ (tells (c .before .verdict .given .1) (c .before .before .before .call-refusal .ensures))
 
 receive-requires : tie.Need-receive-requires
 receive-requires c κs =
-    let a = c .before .before .before .before .before .before .before .before .before .before .before .args in
-    callable (tables (a .queues .now) (a .pool .now) (a .tasks .now)) (a .caller) (sym (c .before .before .before .if1 .left) ∙ c .before .before .before .before .call-refusal .ensures)
+    let a = c .before .before .before .before .before .before .before .before .before .before .before .before .args in
+    callable (tables (a .queues .now) (a .pool .now) (a .tasks .now)) (a .caller) (tells (c .before .before .before .enum-told .given .1) (c .before .before .before .before .before .call-refusal .ensures))
 
 returns-2 : tie.Need-returns-2
 returns-2 c =
-    let a = c .before .before .before .before .before .before .before .before .before .before .before .before .before .before .before .before .before .before .args in
-    c .before .before .before .before .before .before .receive .ensures ∙ accepted-call (tables (a .queues .now) (a .pool .now) (a .tasks .now)) (a .caller) (sym (c .before .before .before .before .before .before .before .before .before .before .if1 .left) ∙ c .before .before .before .before .before .before .before .before .before .before .before .call-refusal .ensures) (onQueue (a .id) (receive (a .option) (a .ticks)))
+    let a = c .before .before .before .before .before .before .before .before .before .before .before .before .before .before .before .before .before .before .before .args in
+    c .before .before .before .before .before .before .receive .ensures ∙ accepted-call (tables (a .queues .now) (a .pool .now) (a .tasks .now)) (a .caller) (tells (c .before .before .before .before .before .before .before .before .before .before .enum-told .given .1) (c .before .before .before .before .before .before .before .before .before .before .before .before .call-refusal .ensures)) (onQueue (a .id) (receive (a .option) (a .ticks)))
 
 pub message-queue-receive-spec : {M : Type 1} → statement M
-message-queue-receive-spec =
-    tie.close
-    (tie.spec
-    (search needs)
-    (search needs)
-    (search needs)
-    (search needs)
-    returns
-    receive-requires
-    (search needs)
-    (search needs)
-    (search needs)
-    returns-2)
+message-queue-receive-spec = tie.close (tie.spec (search needs) (search needs) (search needs) (search needs) (search needs) returns (search needs) receive-requires (search needs) (search needs) (search needs) returns-2)

@@ -5,6 +5,7 @@ use native.Mathlib.Numerals.{add-one}
 use mathlib.Core.Path.{refl, sym, ap, _∙_, subst}
 use Rattle.records.specs.Changes.{withPending, withWaiters}
 use Rattle.records.proofs.Tabled.{slot-share-below}
+use Rattle.records.proofs.Statuses.{tells}
 use Rattle.coremsg.proofs.Changed.{queue-written}
 use Rattle.manager.specs.Outcomes.{tables}
 use Rattle.manager.proofs.Outcomes.{facts, caller-ready, table-lengths, as-encoded}
@@ -31,49 +32,18 @@ refusal-requires c κs = caller-ready _ _ _ _ (c .before .before .before .before
 
 returns : tie.Need-returns
 returns c =
-    let a = c .before .before .before .before .before .before .before .before .before .before .before .before .before .args in
-    let t = tables (a .queues .now) (a .pool .now) (a .tasks .now) in
-    let q = c .before .before .before .before .before .before .before .read-queue in
-    let w = c .before .before .before .before .before .first-waiter in
-    let o = c .before .before .before .share-of-slot in
-    let f = c .before .before .free-buffer in
-    refused-operation t (a .caller) (a .id) (operation t (a .caller) (a .id) (a .message .now) (a .front) (q .result) (q .ensures)) (q .result) (q .ensures)
-    (own-refusals t (a .caller) (a .id) (a .message .now) (a .front) (q .result) (q .ensures) (w .result) (f .result) (o .result) (w .ensures) (o .ensures) (f .ensures))
-    (submit-tests t (a .caller) (a .id) (a .message .now) (a .front) (q .result) (q .ensures) (w .result) (f .result) (o .result) (w .ensures) (o .ensures) (f .ensures)) _ (c .before .refusal .ensures) (c .if1 .taken)
-
-deliver-first-requires : tie.Need-deliver-first-requires
-deliver-first-requires c κs =
-    let s = c .before .before .before .before .before .before .before .before .before .before .before .before .before .before .before in
-    let a = s .args in
+    let a = c .before .before .before .before .before .before .before .before .before .before .before .before .before .before .before .args in
     let t = tables (a .queues .now) (a .pool .now) (a .tasks .now) in
     let q = c .before .before .before .before .before .before .before .before .before .read-queue in
     let w = c .before .before .before .before .before .before .before .first-waiter in
     let o = c .before .before .before .before .before .share-of-slot in
     let f = c .before .before .before .before .free-buffer in
-    (c .before .if2 .taken, (omega arith, (table-lengths _ _ _ _ (s .pre) .2, fits t (a .caller) (a .id) (a .message .now) (a .front) (q .result) (q .ensures) (w .result) (f .result) (o .result) (w .ensures) (o .ensures) (f .ensures) (sym (c .before .before .if1 .left) ∙ c .before .before .before .refusal .ensures) (facts _ _ _ _ (s .pre)))))
+    refused-operation t (a .caller) (a .id) (operation t (a .caller) (a .id) (a .message .now) (a .front) (q .result) (q .ensures)) (q .result) (q .ensures)
+    (own-refusals t (a .caller) (a .id) (a .message .now) (a .front) (q .result) (q .ensures) (w .result) (f .result) (o .result) (w .ensures) (o .ensures) (f .ensures))
+    (submit-tests t (a .caller) (a .id) (a .message .now) (a .front) (q .result) (q .ensures) (w .result) (f .result) (o .result) (w .ensures) (o .ensures) (f .ensures)) _ (tells (c .before .verdict .given .1) (c .before .before .before .refusal .ensures))
 
-write-queue-requires : tie.Need-write-queue-requires
-write-queue-requires c κs = (omega arith, table-lengths _ _ _ _ (c .before .before .before .before .before .before .before .before .before .before .before .before .before .before .before .before .before .before .before .before .before .pre) .0)
-
-returns-2 : tie.Need-returns-2
-returns-2 c =
-    let s = c .before .before .before .before .before .before .before .before .before .before .before .before .before .before .before .before .before .before .before .before .before .before .before .before .before in
-    let a = s .args in
-    let t = tables (a .queues .now) (a .pool .now) (a .tasks .now) in
-    let q = c .before .before .before .before .before .before .before .before .before .before .before .before .before .before .before .before .before .before .before .read-queue in
-    let w = c .before .before .before .before .before .before .before .before .before .before .before .before .before .before .before .before .before .first-waiter in
-    let o = c .before .before .before .before .before .before .before .before .before .before .before .before .before .before .before .share-of-slot in
-    let f = c .before .before .before .before .before .before .before .before .before .before .before .before .before .before .free-buffer in
-    let given = c .before .before .before .before .before .before .before .before .before .deliver-first in
-    let made = c .before .before .before .before .with-waiters in
-    let written = c .before .before .before .write-queue in
-    delivered-done t (a .caller) (a .id) (a .message .now) (a .front) (q .result) (q .ensures) (w .result) (f .result) (o .result) (w .ensures) (o .ensures) (f .ensures) (sym (c .before .before .before .before .before .before .before .before .before .before .before .before .if1 .left) ∙ c .before .before .before .before .before .before .before .before .before .before .before .before .before .refusal .ensures) (c .before .before .before .before .before .before .before .before .before .before .before .if2 .taken)
-    (written .last .0) (given .last .0) (c .bit .result) (c .bit .ensures)
-    (queue-written (a .queues .now) _ _ (omega arith) (q .result) (made .result) (λ x. withWaiters (x .waiters - 1) x) (q .ensures) (made .ensures ∙ ap (λ (k : ℕ). withWaiters k (q .result)) (c .before .before .before .before .before .less-one .ensures)) (written .ensures)) (given .ensures)
-    (as-encoded _ _ _ (a .caller) (s .pre) _ _ _ (written .kept .0) refl (given .kept .0) (λ i. c .before .slice-known5 .given i .fits) (λ i. c .before .before .before .before .before .before .before .before .before .before .before .before .before .before .before .before .before .before .before .before .before .before .before .slice-known2 .given i .fits) (λ i. c .before .before .before .before .before .before .before .slice-known4 .given i .fits))
-
-enqueue-requires : tie.Need-enqueue-requires
-enqueue-requires c κs =
+deliver-first-requires : tie.Need-deliver-first-requires
+deliver-first-requires c κs =
     let s = c .before .before .before .before .before .before .before .before .before .before .before .before .before .before .before .before in
     let a = s .args in
     let t = tables (a .queues .now) (a .pool .now) (a .tasks .now) in
@@ -81,40 +51,71 @@ enqueue-requires c κs =
     let w = c .before .before .before .before .before .before .before .before .first-waiter in
     let o = c .before .before .before .before .before .before .share-of-slot in
     let f = c .before .before .before .before .before .free-buffer in
-    let passed = sym (c .before .before .before .if1 .left) ∙ c .before .before .before .before .refusal .ensures in
-    (found t (a .caller) (a .id) (a .message .now) (a .front) (q .result) (q .ensures) (w .result) (f .result) (o .result) (w .ensures) (o .ensures) (f .ensures) passed (c .before .before .if2 .left), (omega arith, (table-lengths _ _ _ _ (s .pre) .1, (fits t (a .caller) (a .id) (a .message .now) (a .front) (q .result) (q .ensures) (w .result) (f .result) (o .result) (w .ensures) (o .ensures) (f .ensures) passed (facts _ _ _ _ (s .pre)), ranks-room t (a .caller) (a .id) (a .message .now) (a .front) (q .result) (q .ensures) (w .result) (f .result) (o .result) (w .ensures) (o .ensures) (f .ensures) passed (facts _ _ _ _ (s .pre))))))
+    (c .before .if1 .taken, (omega arith, (table-lengths _ _ _ _ (s .pre) .2, fits t (a .caller) (a .id) (a .message .now) (a .front) (q .result) (q .ensures) (w .result) (f .result) (o .result) (w .ensures) (o .ensures) (f .ensures) (tells (c .before .before .enum-told .given .1) (c .before .before .before .before .refusal .ensures)) (facts _ _ _ _ (s .pre)))))
+
+write-queue-requires : tie.Need-write-queue-requires
+write-queue-requires c κs = (omega arith, table-lengths _ _ _ _ (c .before .before .before .before .before .before .before .before .before .before .before .before .before .before .before .before .before .before .before .before .before .before .pre) .0)
+
+returns-2 : tie.Need-returns-2
+returns-2 c =
+    let s = c .before .before .before .before .before .before .before .before .before .before .before .before .before .before .before .before .before .before .before .before .before .before .before .before .before .before in
+    let a = s .args in
+    let t = tables (a .queues .now) (a .pool .now) (a .tasks .now) in
+    let q = c .before .before .before .before .before .before .before .before .before .before .before .before .before .before .before .before .before .before .before .before .read-queue in
+    let w = c .before .before .before .before .before .before .before .before .before .before .before .before .before .before .before .before .before .before .first-waiter in
+    let o = c .before .before .before .before .before .before .before .before .before .before .before .before .before .before .before .before .share-of-slot in
+    let f = c .before .before .before .before .before .before .before .before .before .before .before .before .before .before .before .free-buffer in
+    let given = c .before .before .before .before .before .before .before .before .before .deliver-first in
+    let made = c .before .before .before .before .with-waiters in
+    let written = c .before .before .before .write-queue in
+    delivered-done t (a .caller) (a .id) (a .message .now) (a .front) (q .result) (q .ensures) (w .result) (f .result) (o .result) (w .ensures) (o .ensures) (f .ensures) (tells (c .before .before .before .before .before .before .before .before .before .before .before .before .enum-told .given .1) (c .before .before .before .before .before .before .before .before .before .before .before .before .before .before .refusal .ensures)) (c .before .before .before .before .before .before .before .before .before .before .before .if1 .taken)
+    (written .last .0) (given .last .0) (c .bit .result) (c .bit .ensures)
+    (queue-written (a .queues .now) _ _ (omega arith) (q .result) (made .result) (λ x. withWaiters (x .waiters - 1) x) (q .ensures) (made .ensures ∙ ap (λ (k : ℕ). withWaiters k (q .result)) (c .before .before .before .before .before .less-one .ensures)) (written .ensures)) (given .ensures)
+    (as-encoded _ _ _ (a .caller) (s .pre) _ _ _ (written .kept .0) refl (given .kept .0) (λ i. c .before .slice-known5 .given i .fits) (λ i. c .before .before .before .before .before .before .before .before .before .before .before .before .before .before .before .before .before .before .before .before .before .before .before .before .slice-known2 .given i .fits) (λ i. c .before .before .before .before .before .before .before .slice-known4 .given i .fits))
+
+enqueue-requires : tie.Need-enqueue-requires
+enqueue-requires c κs =
+    let s = c .before .before .before .before .before .before .before .before .before .before .before .before .before .before .before .before .before in
+    let a = s .args in
+    let t = tables (a .queues .now) (a .pool .now) (a .tasks .now) in
+    let q = c .before .before .before .before .before .before .before .before .before .before .before .read-queue in
+    let w = c .before .before .before .before .before .before .before .before .before .first-waiter in
+    let o = c .before .before .before .before .before .before .before .share-of-slot in
+    let f = c .before .before .before .before .before .before .free-buffer in
+    let passed = tells (c .before .before .before .enum-told .given .1) (c .before .before .before .before .before .refusal .ensures) in
+    (found t (a .caller) (a .id) (a .message .now) (a .front) (q .result) (q .ensures) (w .result) (f .result) (o .result) (w .ensures) (o .ensures) (f .ensures) passed (c .before .before .if1 .left), (omega arith, (table-lengths _ _ _ _ (s .pre) .1, (fits t (a .caller) (a .id) (a .message .now) (a .front) (q .result) (q .ensures) (w .result) (f .result) (o .result) (w .ensures) (o .ensures) (f .ensures) passed (facts _ _ _ _ (s .pre)), ranks-room t (a .caller) (a .id) (a .message .now) (a .front) (q .result) (q .ensures) (w .result) (f .result) (o .result) (w .ensures) (o .ensures) (f .ensures) passed (facts _ _ _ _ (s .pre))))))
 
 add-with-pending : tie.Need-add-with-pending
 add-with-pending c =
-    let s = c .before .before .before .before .before .before .before .before .before .before .before .before .before .before .before .before .before .before .before .before .before in
+    let s = c .before .before .before .before .before .before .before .before .before .before .before .before .before .before .before .before .before .before .before .before .before .before in
     let a = s .args in
     let t = tables (a .queues .now) (a .pool .now) (a .tasks .now) in
-    let q = c .before .before .before .before .before .before .before .before .before .before .before .before .before .before .before .read-queue in
-    let w = c .before .before .before .before .before .before .before .before .before .before .before .before .before .first-waiter in
-    let o = c .before .before .before .before .before .before .before .before .before .before .before .share-of-slot in
-    let f = c .before .before .before .before .before .before .before .before .before .before .free-buffer in
-    omega (arith, few-messages t (a .caller) (a .id) (a .message .now) (a .front) (q .result) (q .ensures) (w .result) (f .result) (o .result) (w .ensures) (o .ensures) (f .ensures) (sym (c .before .before .before .before .before .before .before .before .if1 .left) ∙ c .before .before .before .before .before .before .before .before .before .refusal .ensures) (facts _ _ _ _ (s .pre)))
+    let q = c .before .before .before .before .before .before .before .before .before .before .before .before .before .before .before .before .read-queue in
+    let w = c .before .before .before .before .before .before .before .before .before .before .before .before .before .before .first-waiter in
+    let o = c .before .before .before .before .before .before .before .before .before .before .before .before .share-of-slot in
+    let f = c .before .before .before .before .before .before .before .before .before .before .before .free-buffer in
+    omega (arith, few-messages t (a .caller) (a .id) (a .message .now) (a .front) (q .result) (q .ensures) (w .result) (f .result) (o .result) (w .ensures) (o .ensures) (f .ensures) (tells (c .before .before .before .before .before .before .before .before .enum-told .given .1) (c .before .before .before .before .before .before .before .before .before .before .refusal .ensures)) (facts _ _ _ _ (s .pre)))
 
 write-queue-requires-2 : tie.Need-write-queue-requires-2
-write-queue-requires-2 c κs = (omega arith, table-lengths _ _ _ _ (c .before .before .before .before .before .before .before .before .before .before .before .before .before .before .before .before .before .before .before .before .before .before .pre) .0)
+write-queue-requires-2 c κs = (omega arith, table-lengths _ _ _ _ (c .before .before .before .before .before .before .before .before .before .before .before .before .before .before .before .before .before .before .before .before .before .before .before .pre) .0)
 
 returns-3 : tie.Need-returns-3
 returns-3 c =
-    let s = c .before .before .before .before .before .before .before .before .before .before .before .before .before .before .before .before .before .before .before .before .before .before .before .before .before in
+    let s = c .before .before .before .before .before .before .before .before .before .before .before .before .before .before .before .before .before .before .before .before .before .before .before .before .before .before in
     let a = s .args in
     let t = tables (a .queues .now) (a .pool .now) (a .tasks .now) in
-    let q = c .before .before .before .before .before .before .before .before .before .before .before .before .before .before .before .before .before .before .before .read-queue in
-    let w = c .before .before .before .before .before .before .before .before .before .before .before .before .before .before .before .before .before .first-waiter in
-    let o = c .before .before .before .before .before .before .before .before .before .before .before .before .before .before .before .share-of-slot in
-    let f = c .before .before .before .before .before .before .before .before .before .before .before .before .before .before .free-buffer in
+    let q = c .before .before .before .before .before .before .before .before .before .before .before .before .before .before .before .before .before .before .before .before .read-queue in
+    let w = c .before .before .before .before .before .before .before .before .before .before .before .before .before .before .before .before .before .before .first-waiter in
+    let o = c .before .before .before .before .before .before .before .before .before .before .before .before .before .before .before .before .share-of-slot in
+    let f = c .before .before .before .before .before .before .before .before .before .before .before .before .before .before .before .free-buffer in
     let put = c .before .before .before .before .before .before .before .before .enqueue in
     let rank = c .before .before .before .before .before .before .before .before .before .rank-of in
     let made = c .before .before .before .with-pending in
     let written = c .before .before .write-queue2 in
-    enqueued-done t (a .caller) (a .id) (a .message .now) (a .front) (q .result) (q .ensures) (w .result) (f .result) (o .result) (w .ensures) (o .ensures) (f .ensures) (sym (c .before .before .before .before .before .before .before .before .before .before .before .before .if1 .left) ∙ c .before .before .before .before .before .before .before .before .before .before .before .before .before .refusal .ensures) (c .before .before .before .before .before .before .before .before .before .before .before .if2 .left)
+    enqueued-done t (a .caller) (a .id) (a .message .now) (a .front) (q .result) (q .ensures) (w .result) (f .result) (o .result) (w .ensures) (o .ensures) (f .ensures) (tells (c .before .before .before .before .before .before .before .before .before .before .before .before .enum-told .given .1) (c .before .before .before .before .before .before .before .before .before .before .before .before .before .before .refusal .ensures)) (c .before .before .before .before .before .before .before .before .before .before .before .if1 .left)
     (written .last .0) (put .last .0) (rank .result) (rank .ensures)
     (queue-written (a .queues .now) _ _ (omega arith) (q .result) (made .result) (λ x. withPending (suc (x .pending)) x) (q .ensures) (made .ensures ∙ ap (λ (k : ℕ). withPending k (q .result)) (add-one (q .result .pending))) (written .ensures)) (put .ensures)
-    (as-encoded _ _ _ (a .caller) (s .pre) _ _ _ (written .kept .0) (put .kept .0) refl (λ i. c .slice-known7 .given i .fits) (λ i. c .before .before .before .before .before .before .slice-known6 .given i .fits) (λ i. c .before .before .before .before .before .before .before .before .before .before .before .before .before .before .before .before .before .before .before .before .before .before .slice-known3 .given i .fits))
+    (as-encoded _ _ _ (a .caller) (s .pre) _ _ _ (written .kept .0) (put .kept .0) refl (λ i. c .slice-known7 .given i .fits) (λ i. c .before .before .before .before .before .before .slice-known6 .given i .fits) (λ i. c .before .before .before .before .before .before .before .before .before .before .before .before .before .before .before .before .before .before .before .before .before .before .before .slice-known3 .given i .fits))
 
 pub submit-spec : {M : Type 1} → statement M
-submit-spec = tie.close (tie.spec (search needs) read-queue-requires first-waiter-requires share-of-slot-requires free-buffer-requires refusal-requires (search needs) (search needs) (search needs) returns deliver-first-requires (search needs) (search needs) write-queue-requires (search needs) (search needs) (search needs) (search needs) returns-2 (search needs) enqueue-requires add-with-pending (search needs) write-queue-requires-2 (search needs) (search needs) (search needs) returns-3)
+submit-spec = tie.close (tie.spec (search needs) read-queue-requires first-waiter-requires share-of-slot-requires free-buffer-requires refusal-requires (search needs) (search needs) (search needs) (search needs) returns (search needs) deliver-first-requires (search needs) (search needs) write-queue-requires (search needs) (search needs) (search needs) (search needs) returns-2 (search needs) enqueue-requires add-with-pending (search needs) write-queue-requires-2 (search needs) (search needs) (search needs) returns-3)

@@ -38,17 +38,4 @@ returns-2 c =
     ∙ ap (λ (n : ℕ). answeredInto (a .answer .now) t n o) (f .first-byte .ensures)
 
 pub message-manager-call-spec : {M : Type 1} → statement M
-message-manager-call-spec =
-    tie.close
-    (tie.spec
-    returns
-    (search needs)
-    (search needs)
-    (search needs)
-    (search needs)
-    (search needs)
-    (search needs)
-    (search needs)
-    (search needs)
-    (search needs)
-    returns-2)
+message-manager-call-spec = tie.close (tie.spec (search needs) returns (search needs) (search needs) (search needs) (search needs) (search needs) (search needs) (search needs) (search needs) (search needs) returns-2)

@@ -15,17 +15,4 @@ returns-2 : tie.Need-returns-2
 returns-2 c = returned _ (c .if1 .left) (replays (c .before) .replay .ensures)
 
 pub message-manager-replay-spec : {M : Type 1} → statement M
-message-manager-replay-spec =
-    tie.close
-    (tie.spec
-    (search needs)
-    (search needs)
-    (search needs)
-    (search needs)
-    (search needs)
-    returns
-    (search needs)
-    (search needs)
-    (search needs)
-    (search needs)
-    returns-2)
+message-manager-replay-spec = tie.close (tie.spec (search needs) (search needs) (search needs) (search needs) (search needs) (search needs) returns (search needs) (search needs) (search needs) (search needs) (search needs) returns-2)

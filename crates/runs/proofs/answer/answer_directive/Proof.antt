@@ -1,5 +1,6 @@
 -- `runs::answer::answer_directive` meets its contract. Assumes nothing.
-use mathlib.Core.Path.{sym, _∙_}
+use mathlib.Core.Path.{_∙_}
+use Rattle.records.proofs.Statuses.{tells}
 use Rattle.runs.specs.Replay.{directiveOf}
 use Rattle.manager.specs.Outcomes.{tables}
 use Rattle.manager.proofs.Calls.{refused-call, callable, accepted-call}
@@ -12,18 +13,18 @@ caller-refusal-requires c κs = c .before .before .before .before .before .befor
 
 returns : tie.Need-returns
 returns c =
-    let a = c .before .before .before .before .before .before .before .before .before .args in
-    refused-call (tables (a .queues .now) (a .pool .now) (a .tasks .now)) (a .caller) (directiveOf (a .directive) (a .field .now)) _ (c .before .caller-refusal .ensures) (c .if1 .taken)
+    let a = c .before .before .before .before .before .before .before .before .before .before .before .args in
+    refused-call (tables (a .queues .now) (a .pool .now) (a .tasks .now)) (a .caller) (directiveOf (a .directive) (a .field .now)) _ (tells (c .before .refusal .given .1) (c .before .before .before .caller-refusal .ensures))
 
 perform-requires : tie.Need-perform-requires
 perform-requires c κs =
-    let a = c .before .before .before .before .before .before .before .before .before .before .before .before .args in
-    callable (tables (a .queues .now) (a .pool .now) (a .tasks .now)) (a .caller) (sym (c .before .before .before .if1 .left) ∙ c .before .before .before .before .caller-refusal .ensures)
+    let a = c .before .before .before .before .before .before .before .before .before .before .before .before .before .args in
+    callable (tables (a .queues .now) (a .pool .now) (a .tasks .now)) (a .caller) (tells (c .before .before .before .enum-told .given .1) (c .before .before .before .before .before .caller-refusal .ensures))
 
 returns-2 : tie.Need-returns-2
 returns-2 c =
-    let a = c .before .before .before .before .before .before .before .before .before .before .before .before .before .before .before .before .before .before .before .args in
-    c .before .before .before .before .before .before .perform .ensures ∙ accepted-call (tables (a .queues .now) (a .pool .now) (a .tasks .now)) (a .caller) (sym (c .before .before .before .before .before .before .before .before .before .before .if1 .left) ∙ c .before .before .before .before .before .before .before .before .before .before .before .caller-refusal .ensures) (directiveOf (a .directive) (a .field .now))
+    let a = c .before .before .before .before .before .before .before .before .before .before .before .before .before .before .before .before .before .before .before .before .args in
+    c .before .before .before .before .before .before .perform .ensures ∙ accepted-call (tables (a .queues .now) (a .pool .now) (a .tasks .now)) (a .caller) (tells (c .before .before .before .before .before .before .before .before .before .before .enum-told .given .1) (c .before .before .before .before .before .before .before .before .before .before .before .before .caller-refusal .ensures)) (directiveOf (a .directive) (a .field .now))
 
 pub answer-directive-spec : {M : Type 1} → statement M
-answer-directive-spec = tie.close (tie.spec caller-refusal-requires (search needs) (search needs) (search needs) returns perform-requires (search needs) (search needs) (search needs) returns-2)
+answer-directive-spec = tie.close (tie.spec caller-refusal-requires (search needs) (search needs) (search needs) (search needs) returns (search needs) perform-requires (search needs) (search needs) (search needs) returns-2)

@@ -5,19 +5,21 @@ use mathlib.Core.Path.{_≡_, refl, sym, ap, _∙_}
 use mathlib.Core.List.{List}
 use lib.ListN.{length}
 use Rattle.ranks.specs.Table.{slice}
+use Rattle.records.specs.Status.{verdictStatus}
+use Rattle.records.specs.declared.status.Verdict.{Verdict}
 use Rattle.specification.specs.Answer.{firstStatus}
 use Rattle.manager.specs.Outcomes.{tables, tableRefusals}
 use Rattle.manager.proofs.Outcomes.{Slice}
 use Rattle.runs.specs.Replay.{Tested, ReplayedAt, replayedAt}
 use Rattle.runs.proofs.Replays.{ReplayedTo, none-replayed, room-for-one, one-more-replayed, all-replayed, next-after}
-use Rattle.runs.proofs.TableStatus.{sliced, status-stays}
+use Rattle.runs.proofs.TableStatus.{sliced, verdict-stays}
 use borrow.Author.Needs.{needs}
 use Rattle.runs.proofs.replay.replay_all.Statement.{statement}
 use Rattle.runs.proofs.replay.replay_all.Tie as tie
 
--- The log is replayed up to `at`, and the tests of the tables still give the status.
-record Replaying (queues₀ pool₀ tasks₀ log lent : List ℕ) (status : ℕ) (queues pool tasks answers : List ℕ) (at to : ℕ) : Type 0 where
-  tested : Tested (tables queues pool tasks) status
+-- The log is replayed up to `at`, and the tests of the tables still give the verdict.
+record Replaying (queues₀ pool₀ tasks₀ log lent : List ℕ) (verdict : Verdict) (queues pool tasks answers : List ℕ) (at to : ℕ) : Type 0 where
+  tested : Tested (tables queues pool tasks) verdict
   queue-bytes : Slice queues
   pool-bytes : Slice pool
   task-bytes : Slice tasks
@@ -27,11 +29,11 @@ record Replaying (queues₀ pool₀ tasks₀ log lent : List ℕ) (status : ℕ)
   done : ReplayedTo (tables queues₀ pool₀ tasks₀) log lent (tables queues pool tasks) answers at to
 
 abbrev Inv-loop : tie.InvT-loop
-Inv-loop queues₀ pool₀ tasks₀ log answers₀ status at₀ to₀ queues pool tasks answers at to =
-    Replaying queues₀ pool₀ tasks₀ log answers₀ status queues pool tasks answers at to
+Inv-loop queues₀ pool₀ tasks₀ log answers₀ verdict at₀ to₀ queues pool tasks answers at to =
+    Replaying queues₀ pool₀ tasks₀ log answers₀ verdict queues pool tasks answers at to
 
 abbrev μ-loop : tie.MeasureT-loop
-μ-loop queues₀ pool₀ tasks₀ log answers₀ status at₀ to₀ queues pool tasks answers at to = length log - at
+μ-loop queues₀ pool₀ tasks₀ log answers₀ verdict at₀ to₀ queues pool tasks answers at to = length log - at
 
 -- the function's entry, from where all slices that it is passed are known to be bytes
 abbrev entry : tie.After-slice-known4 Inv-loop μ-loop → tie.Start Inv-loop μ-loop
@@ -104,7 +106,7 @@ loop-again c =
     let bytes : Slice part = sliced (v .at) 136 (a .log .now) (λ j. k .before .shared-slice-known .given j .fits) in
     record {
       tested =
-          status-stays t (v .inv .tested) part (v .inv .queue-bytes) (v .inv .pool-bytes) (v .inv .task-bytes) bytes
+          verdict-stays t (v .inv .queue-bytes) (v .inv .pool-bytes) (v .inv .task-bytes) (b .before .before .table-refusal .result) (v .inv .tested) part bytes
           ∙ sym (ap (λ (x : ReplayedAt). firstStatus (tableRefusals (x .after))) (o .replay-at .ensures));
       queue-bytes = λ j. c .before .before .before .before .before .before .slice-known5 .given j .fits;
       pool-bytes = λ j. c .before .before .before .before .slice-known6 .given j .fits;

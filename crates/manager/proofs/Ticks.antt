@@ -2,7 +2,7 @@
 use Prim.Native.Nat.{ℕ, suc, pred, _+_, _-_, _*_, _≤_, _<_}
 use native.Mathlib.Omega.{arith}
 use mathlib.Core.Path.{_≡_, refl, sym, ap, ap₂, _∙_, subst}
-use mathlib.Core.Bool.{true, false, _&&_}
+use mathlib.Core.Bool.{Bool, true, false, _&&_}
 use mathlib.Core.Logic.{⊎-elim}
 use mathlib.Core.List.{List}
 use lib.Count.{ones}
@@ -23,7 +23,7 @@ use Rattle.records.proofs.EncodeDecode.{encode-decode}
 use Rattle.specification.specs.Call.{tick}
 use Rattle.specification.specs.Lookup.{leave}
 use Rattle.specification.specs.Sound.{sound}
-use Rattle.specification.specs.Tick.{expires, tickTask, tickTasks}
+use Rattle.specification.specs.Tick.{isLastTick, isTicking, expiring, tickTask, tickTasks}
 use Rattle.specification.specs.Tick
 use Rattle.specification.specs.Step.{effect, encoded}
 use Rattle.specification.proofs.Rules.{task-rules}
@@ -31,7 +31,7 @@ use Rattle.specification.proofs.SoundFacts.{SoundFacts, sound-facts}
 use Rattle.theorems.proofs.FieldsInRange.{decoded-sized}
 use Rattle.theorems.proofs.SoundTick.{tickTask-sound}
 use Rattle.manager.specs.Outcomes.{answerOf, tables, outcomeOf}
-use Rattle.manager.specs.Ticks.{NamesSlot}
+use Rattle.manager.specs.Ticks.{NamesSlot, countedDown}
 use Rattle.manager.specs.declared.answer.Answer.the-variants.{Successful}
 use Rattle.manager.proofs.Outcomes.{Slice}
 
@@ -40,9 +40,9 @@ use Rattle.manager.proofs.Outcomes.{Slice}
 -- one task's tick by the head of its record
 abbrev byHead : State → ℕ → TaskHead → State
 byHead s t x =
-    if eqb (x .state) 1 && eqb (x .ticksLeft) 1
+    if isLastTick (x .state) (x .ticksLeft)
     then leave s t (pred (x .queue)) (x .rank) (readyWith 7)
-    else if eqb (x .state) 1 && leb 1 (x .ticksLeft)
+    else if isTicking (x .state) (x .ticksLeft)
     then record { queues = s .queues; pool = s .pool; tasks = mapWithIndex (atIndex t (withTicks (x .ticksLeft - 1))) (s .tasks) }
     else s
 
@@ -51,7 +51,7 @@ module _ (q p w : List ℕ) (t : ℕ) (h : t < 32) (x : TaskHead) (read : x ≡ 
   unfolding tickTask
   by-head = ap (byHead (decode (tables q p w)) t) (read ∙ ap headOf (sym (task-at (tables q p w) t h)))
 
-  pub timed-out : (q′ w′ : List ℕ) (slot : ℕ) → (eqb (x .state) 1 && eqb (x .ticksLeft) 1) ≡ true → slot ≡ pred (x .queue)
+  pub timed-out : (q′ w′ : List ℕ) (slot : ℕ) → (isLastTick (x .state) (x .ticksLeft)) ≡ true → slot ≡ pred (x .queue)
       → decodeQueues q′ ≡ mapWithIndex (atIndex slot (λ y. withWaiters (y .waiters - 1) y)) (decodeQueues q)
       → decodeTasks w′ ≡ takeOutTask t slot (x .rank) (readyWith TIMEOUT) (decodeTasks w)
       → decode (tables q′ p w′) ≡ tickTask (decode (tables q p w)) t
@@ -61,18 +61,22 @@ module _ (q p w : List ℕ) (t : ℕ) (h : t < 32) (x : TaskHead) (read : x ≡ 
       ∙ ap (λ (k : ℕ). leave (decode (tables q p w)) t k (x .rank) (readyWith 7)) at
       ∙ rw e refl ∙ by-head
 
-  module _ (stays : (eqb (x .state) 1 && eqb (x .ticksLeft) 1) ≡ false) where
-    pub one-tick-less : (w′ : List ℕ) → (eqb (x .state) 1 && leb 1 (x .ticksLeft)) ≡ true
-        → decodeTasks w′ ≡ mapWithIndex (atIndex t (withTicks (x .ticksLeft - 1))) (decodeTasks w)
+  module _ (stays : (isLastTick (x .state) (x .ticksLeft)) ≡ false) where
+    abbrev with-tasks : List Task → State
+    with-tasks tasks = record { queues = decodeQueues q; pool = decodePool p; tasks = tasks }
+
+    counted : (b : Bool) → isTicking (x .state) (x .ticksLeft) ≡ b → with-tasks (countedDown t (x .state) (x .ticksLeft) (decodeTasks w)) ≡ byHead (decode (tables q p w)) t x
+    unfolding decode
+    counted true e = rw (stays, e) refl
+    counted false e = rw (stays, e) refl
+
+    pub counted-down : (w′ : List ℕ) → decodeTasks w′ ≡ countedDown t (x .state) (x .ticksLeft) (decodeTasks w)
         → decode (tables q p w′) ≡ tickTask (decode (tables q p w)) t
     unfolding decode
-    one-tick-less w′ e ew = (λ i. record { queues = decodeQueues q; pool = decodePool p; tasks = ew i }) ∙ rw (stays, e) refl ∙ by-head
-
-    pub not-timed : (eqb (x .state) 1 && leb 1 (x .ticksLeft)) ≡ false → decode (tables q p w) ≡ tickTask (decode (tables q p w)) t
-    not-timed e = rw (stays, e) refl ∙ by-head
+    counted-down w′ ew = ap with-tasks ew ∙ counted (isTicking (x .state) (x .ticksLeft)) refl ∙ by-head
 
 -- a task that times out names a slot
-pub slot-named : (x : TaskHead) (w : Task) → x ≡ headOf w → NamesSlot w → (eqb (x .state) 1 && eqb (x .ticksLeft) 1) ≡ true → (1 ≤ x .queue) × (x .queue ≤ 16)
+pub slot-named : (x : TaskHead) (w : Task) → x ≡ headOf w → NamesSlot w → (isLastTick (x .state) (x .ticksLeft)) ≡ true → (1 ≤ x .queue) × (x .queue ≤ 16)
 slot-named x w read names e =
     subst (λ (y : TaskHead). (eqb (y .state) 1 && eqb (y .ticksLeft) 1) ≡ true → (1 ≤ y .queue) × (y .queue ≤ 16)) (sym read)
     (λ f. names (both (eqb (w .state) 1) (eqb (w .ticksLeft) 1) f .0)) e
@@ -134,7 +138,7 @@ module _ (q₀ p w₀ : List ℕ) where
     -- ---- The whole tick
 
     pub tick-done : 32 ≤ t → rightLengths (tables q₀ p w₀) ≡ true → Slice p → (woken : ℕ)
-        → woken ≡ mask (mapWithIndex (λ k v. expires v) (decodeTasks w₀))
+        → woken ≡ mask (expiring (decodeTasks w₀))
         → outcomeOf (Successful (ones woken) woken) (tables q p w) ≡ encoded (effect (decode (tables q₀ p w₀)) tick)
     unfolding answerOf effect Tick.effect rightLengths decode
     tick-done h ok bp woken e =
@@ -147,6 +151,6 @@ module _ (q₀ p w₀ : List ℕ) where
           pool = record { below = λ i _. bp i };
           tasks = record { below = λ i _. before .tasksBytes i };
         }) in
-        let counted = ap ones e ∙ ones-mask (mapWithIndex (λ k v. expires v) (decodeTasks w₀)) in
+        let counted = ap ones e ∙ ones-mask (expiring (decodeTasks w₀)) in
         let left = sym bytes ∙ ap encode (all-ticked h) in
         λ i. record { answer = record { status = 0; value = counted i; woken = e i }; after = left i }

@@ -1,21 +1,21 @@
 // The clock tick.
 ghost use mathlib.Core.Path.{_≡_};
-ghost use mathlib.Core.Bool.{true, _&&_};
+ghost use mathlib.Core.Bool.{true};
 ghost use mathlib.Core.List.{List};
-ghost use Prim.Native.Nat.{ℕ, _*_, _<_};
-ghost use lib.Dec.{eqb, leb};
+ghost use Prim.Native.Nat.{ℕ, _+_, _*_, _<_};
 ghost use lib.ListN.{length};
-ghost use Rattle.ranks.specs.Lists.{mapWithIndex, mask};
+ghost use Rattle.ranks.specs.Lists.{mask};
 ghost use Rattle.ranks.specs.Table.{slice};
 ghost use Rattle.records.specs.Bytes.{decodeTask, decodeTasks, decode, rightLengths};
 ghost use Rattle.records.specs.Status.{verdictStatus};
+ghost use Rattle.records.specs.TaskHeads.{headOf};
 ghost use Rattle.specification.specs.Answer.{firstStatus};
 ghost use Rattle.specification.specs.Call.{tick};
 ghost use Rattle.specification.specs.Sound.{sound};
 ghost use Rattle.specification.specs.Step.{effect, encoded, step};
-ghost use Rattle.specification.specs.Tick.{expires, tickTask};
+ghost use Rattle.specification.specs.Tick.{isLastTick, isTicking, expiring, tickTask};
 ghost use Rattle.manager.specs.Outcomes.{tables, outcomeOf, tableRefusals};
-ghost use Rattle.manager.specs.Ticks.{NamesSlot};
+ghost use Rattle.manager.specs.Ticks.{NamesSlot, countedDown};
 use crate::answer::Answer;
 use crate::call::table_refusal;
 use coremsg::lookup::less_one;
@@ -30,14 +30,14 @@ use records::task::write_head;
 
 // It waits, and this is its last tick.
 pub fn expires(h: TaskHead) -> bool
-    ensures { λ r. ⌜ r ≡ (eqb (h .state) 1 && eqb (h .ticksLeft) 1) ⌝ }
+    ensures { λ r. ⌜ r ≡ isLastTick (h .state) (h .ticksLeft) ⌝ }
 {
     (h.state == 1) & (h.ticksLeft == 1)
 }
 
 // It waits, and not forever.
 pub fn is_timed(h: TaskHead) -> bool
-    ensures { λ r. ⌜ r ≡ (eqb (h .state) 1 && leb 1 (h .ticksLeft)) ⌝ }
+    ensures { λ r. ⌜ r ≡ isTicking (h .state) (h .ticksLeft) ⌝ }
 {
     (h.state == 1) & (1 <= h.ticksLeft)
 }
@@ -45,7 +45,7 @@ pub fn is_timed(h: TaskHead) -> bool
 // The mask of the tasks whose last tick it is.
 pub fn expired_mask(tasks: &[u8]) -> u32
     requires { ⌜ length (now tasks) ≡ 4352 ⌝ }
-    ensures { λ r. ⌜ r ≡ mask (mapWithIndex (λ t w. expires w) (decodeTasks (now (tasks .entry)))) ⌝ }
+    ensures { λ r. ⌜ r ≡ mask (expiring (decodeTasks (now (tasks .entry)))) ⌝ }
 {
     let mut m = 0;
     let mut t = 32;
@@ -56,10 +56,20 @@ pub fn expired_mask(tasks: &[u8]) -> u32
     m
 }
 
-// "every waiting task with ticks above 0 loses one; all that reach 0 become ready": task t, whatever the buffers.
-fn tick_task(queues: &mut [u8], tasks: &mut [u8], t: usize)
+// "every waiting task with ticks above 0 loses one": task t, whose head is given.
+fn count_down(tasks: &mut [u8], t: usize, h: TaskHead)
+    requires { ⌜ (t < 32) × ((length (now tasks) ≡ 4352) × (h ≡ headOf (decodeTask (slice (t * 136) 136 (now tasks))))) ⌝ }
+    ensures { λ _. ⌜ decodeTasks (now (tasks .exit)) ≡ countedDown t (h .state) (h .ticksLeft) (decodeTasks (now (tasks .entry))) ⌝ }
+{
+    if is_timed(h) {
+        write_head(tasks, t, h.with_ticks(h.ticksLeft - 1));
+    }
+}
+
+// "every waiting task with ticks above 0 loses one; all that reach 0 become ready": task t, whatever the buffers. The task that comes next.
+fn tick_task(queues: &mut [u8], tasks: &mut [u8], t: usize) -> usize
     requires { ⌜ (t < 32) × ((length (now queues) ≡ 256) × ((length (now tasks) ≡ 4352) × NamesSlot (decodeTask (slice (t * 136) 136 (now tasks))))) ⌝ }
-    ensures { λ _. ⌜ ((pool : List ℕ) → decode (tables (now (queues .exit)) pool (now (tasks .exit)))
+    ensures { λ r. ⌜ (r ≡ t + 1) × ((pool : List ℕ) → decode (tables (now (queues .exit)) pool (now (tasks .exit)))
         ≡ tickTask (decode (tables (now (queues .entry)) pool (now (tasks .entry)))) t) ⌝ }
 {
     let h = read_head(tasks, t);
@@ -69,11 +79,10 @@ fn tick_task(queues: &mut [u8], tasks: &mut [u8], t: usize)
         let q = read_queue(queues, slot as usize);
         let n = less_one(q.waiters);
         write_queue(queues, slot as usize, q.with_waiters(n));
-        return;
+        return t + 1;
     }
-    if is_timed(h) {
-        write_head(tasks, t, h.with_ticks(h.ticksLeft - 1));
-    }
+    count_down(tasks, t, h);
+    t + 1
 }
 
 // The tick, on sound tables.
@@ -85,8 +94,7 @@ pub fn tick(queues: &mut [u8], pool: &[u8], tasks: &mut [u8]) -> Answer
     let woken = expired_mask(tasks);
     let mut t = 0;
     while t < 32 {
-        tick_task(queues, tasks, t);
-        t += 1;
+        t = tick_task(queues, tasks, t);
     }
     Answer::Successful(u32::count_ones(woken), woken)
 }

@@ -1,7 +1,7 @@
 -- `manager::clocktick::tick` meets its contract. Assumes nothing.
 use Prim.Native.Nat.{_-_}
 use native.Mathlib.Omega.{arith}
-use mathlib.Core.Path.{_∙_}
+use mathlib.Core.Path.{sym, subst, _∙_}
 use Rattle.records.proofs.EncodeDecode.{lengths}
 use Rattle.manager.specs.Outcomes.{tables}
 use Rattle.manager.proofs.Ticks.{TickedBelow, none-ticked, one-more-ticked, names-slot, tick-done}
@@ -41,8 +41,9 @@ loop-again c =
     let v = at .before .loop in
     let a = at .before .before .before .before .before .before .before .args in
     let done = c .before .before .before .before .tick-task in
-    one-more-ticked (a .queues .now) (a .pool .now) (a .tasks .now) (v .queues) (v .tasks) (v .t) (v .inv) (done .last .0) (done .last .1 .0) (at .loop-test .taken) (done .kept .0) (done .kept .1 .0)
-    (λ i. c .before .before .slice-known3 .given i .fits) (λ i. c .slice-known4 .given i .fits) (done .ensures (a .pool .now))
+    subst (TickedBelow (a .queues .now) (a .pool .now) (a .tasks .now) (done .last .0) (done .last .1 .0)) (sym (done .ensures .0))
+    (one-more-ticked (a .queues .now) (a .pool .now) (a .tasks .now) (v .queues) (v .tasks) (v .t) (v .inv) (done .last .0) (done .last .1 .0) (at .loop-test .taken) (done .kept .0) (done .kept .1 .0)
+    (λ i. c .before .before .slice-known3 .given i .fits) (λ i. c .slice-known4 .given i .fits) (done .ensures .1 (a .pool .now)))
 
 same-length : tie.Need-same-length Inv-loop μ-loop
 same-length c = c .before .loop .inv .queuesSize
@@ -67,7 +68,6 @@ tick-spec =
     expired-mask-requires
     loop-holds
     tick-task-requires
-    (search needs)
     (search needs)
     loop-again
     same-length

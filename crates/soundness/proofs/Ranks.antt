@@ -26,7 +26,7 @@ use Rattle.soundness.proofs.Cases.{same-truth}
 -- ---- Counting
 
 module _ (bs : List Bool) where
-  pub count-more : (i n : ℕ) → i < length bs → n + countTrue (drop i bs) ≡ countTrue bs → n + (if getD bs i false then 1 else 0) + countTrue (drop (i + 1) bs) ≡ countTrue bs
+  count-more : (i n : ℕ) → i < length bs → n + countTrue (drop i bs) ≡ countTrue bs → n + (if getD bs i false then 1 else 0) + countTrue (drop (i + 1) bs) ≡ countTrue bs
   unfolding countTrue
   count-more i n h inv =
       let e : countTrue (drop i bs) ≡ (if getD bs i false then 1 else 0) + countTrue (drop (i + 1) bs) =
@@ -38,12 +38,12 @@ module _ (bs : List Bool) where
       step true l = omega arith
       step false l = sym (zero-add (countTrue l))
 
-  pub count-after : (i n : ℕ) → ((j : ℕ) → i ≤ j → getD bs j false ≡ false) → n + countTrue (drop i bs) ≡ countTrue bs → n ≡ countTrue bs
+  count-after : (i n : ℕ) → ((j : ℕ) → i ≤ j → getD bs j false ≡ false) → n + countTrue (drop i bs) ≡ countTrue bs → n ≡ countTrue bs
   count-after i n h inv =
       let e : countTrue (drop i bs) ≡ 0 = count-none (drop i bs) (λ j. getD-drop i bs j false ∙ h (i + j) (omega arith)) in
       omega arith
 
-pub count-before : (bs : List Bool) (i : ℕ) → ((j : ℕ) → j < i → getD bs j false ≡ false) → countTrue (drop i bs) ≡ countTrue bs
+count-before : (bs : List Bool) (i : ℕ) → ((j : ℕ) → j < i → getD bs j false ≡ false) → countTrue (drop i bs) ≡ countTrue bs
 unfolding countTrue
 count-before bs zero h = refl
 count-before [] (suc i) h = refl
@@ -58,8 +58,8 @@ number-position q r h =
     let y : (q + 256 * r) / 256 ≡ r = omega arith in
     λ j. record { queue = x j; rank = y j }
 
--- a number is that of a position exactly if the position that it says stands there
-pub stands-number : (n slot rank : ℕ) → slot < 16 → eqb n (slot + 1 + 256 * rank) ≡ standsAt slot rank (positionOf n)
+-- a number is that of a rank of a queue exactly if the position that it stands for is there
+stands-number : (n slot rank : ℕ) → slot < 16 → eqb n (slot + 1 + 256 * rank) ≡ standsAt slot rank (positionOf n)
 stands-number n slot rank h =
     same-truth _ _
     (λ e. let x : n ≡ slot + 1 + 256 * rank = eqb-true _ _ e in and (eq-eqb (n % 256) (suc slot) (omega arith)) (eq-eqb (n / 256) rank (omega arith)))
@@ -90,7 +90,7 @@ module _ (stride place count : ℕ) (t : List ℕ) (shape : Shape stride place c
 pub part-is : {slot from size from′ size′ : ℕ} {ps : List Position} → from ≡ from′ → size ≡ size′ → Among slot from′ (from′ + size′) ps → Among slot from (from + size) ps
 part-is e f a = rw (e, f) a
 
-pub stood-outside : (slot : ℕ) (ps : List Position) {from to : ℕ} → Among slot from to ps → (r j : ℕ) → (from ≤ j → j < to → ⊥) → getD (stood slot ps r) j false ≡ false
+stood-outside : (slot : ℕ) (ps : List Position) {from to : ℕ} → Among slot from to ps → (r j : ℕ) → (from ≤ j → j < to → ⊥) → getD (stood slot ps r) j false ≡ false
 stood-outside slot ps {from} {to} a r j out = ⊎-elim (λ lt. ⊎-elim (λ e. absurd (there lt e)) (λ e. e) (either (getD (stood slot ps r) j false))) past (lt-or-ge j (length ps))
   where
     past : length ps ≤ j → getD (stood slot ps r) j false ≡ false

@@ -1,6 +1,6 @@
 pub mod Cases
 pub mod Orders
-pub mod Passes
 pub mod Ranks
 pub mod Searched
+pub mod Tables
 pub mod Whole

@@ -8,8 +8,8 @@ use mathlib.Core.Bool.{Bool, true, false, _&&_, not, and-false, true≢false}
 use mathlib.Core.Logic.{⊎-elim}
 use mathlib.Core.List.{List, [], _∷_}
 use lib.Dec.{eqb, ltb}
-use lib.ListN.{length, getD, take, drop, set, length-map, length-set, List·getD-eq-default}
-use lib.Seq.{drop-cons, getD-drop, getD-take, getD-set-same, getD-set-other, length-take-le, ext-getD}
+use lib.ListN.{length, getD, drop, List·getD-eq-default}
+use lib.Seq.{drop-cons, getD-drop}
 use borrow.Author.Tests.{eqb-true, eq-eqb, ltb-true, lt-ltb, not-false}
 use Rattle.ranks.specs.Lists.{if_then_else_, _implies_, countTrue, every, mapWithIndex, numbersFrom}
 use Rattle.ranks.specs.Position.{Position, noQueue, inQueue, standsAt}
@@ -20,14 +20,13 @@ use Rattle.ranks.proofs.Lists.{at-mapped, length-mapped, every-at, every-from, 
 use Rattle.ranks.proofs.Ranked.{implying}
 use Rattle.ranks.proofs.Table.{length-records, at-records, position-slice}
 use Rattle.records.specs.Records.{Queue, freeQueue}
-use Rattle.records.proofs.Access.{at-map}
-use Rattle.soundness.specs.Parts.{positions, positionOf, positionsOf, held, belowCount, partStart, partSize, Among, queueRanked}
+use Rattle.soundness.specs.Parts.{positions, positionOf, held, belowCount, Among, queueRanked}
 use Rattle.soundness.proofs.Cases.{same-truth}
 
 -- ---- Counting
 
 module _ (bs : List Bool) where
-  pub count-more : (i n : ℕ) → i < length bs → n + countTrue (drop i bs) ≡ countTrue bs → n + (if getD bs i false then 1 else 0) + countTrue (drop (i + 1) bs) ≡ countTrue bs
+  count-more : (i n : ℕ) → i < length bs → n + countTrue (drop i bs) ≡ countTrue bs → n + (if getD bs i false then 1 else 0) + countTrue (drop (i + 1) bs) ≡ countTrue bs
   unfolding countTrue
   count-more i n h inv =
       let e : countTrue (drop i bs) ≡ (if getD bs i false then 1 else 0) + countTrue (drop (i + 1) bs) =
@@ -39,12 +38,12 @@ module _ (bs : List Bool) where
       step true l = omega arith
       step false l = sym (zero-add (countTrue l))
 
-  pub count-after : (i n : ℕ) → ((j : ℕ) → i ≤ j → getD bs j false ≡ false) → n + countTrue (drop i bs) ≡ countTrue bs → n ≡ countTrue bs
+  count-after : (i n : ℕ) → ((j : ℕ) → i ≤ j → getD bs j false ≡ false) → n + countTrue (drop i bs) ≡ countTrue bs → n ≡ countTrue bs
   count-after i n h inv =
       let e : countTrue (drop i bs) ≡ 0 = count-none (drop i bs) (λ j. getD-drop i bs j false ∙ h (i + j) (omega arith)) in
       omega arith
 
-pub count-before : (bs : List Bool) (i : ℕ) → ((j : ℕ) → j < i → getD bs j false ≡ false) → countTrue (drop i bs) ≡ countTrue bs
+count-before : (bs : List Bool) (i : ℕ) → ((j : ℕ) → j < i → getD bs j false ≡ false) → countTrue (drop i bs) ≡ countTrue bs
 unfolding countTrue
 count-before bs zero h = refl
 count-before [] (suc i) h = refl
@@ -59,8 +58,8 @@ number-position q r h =
     let y : (q + 256 * r) / 256 ≡ r = omega arith in
     λ j. record { queue = x j; rank = y j }
 
--- a number is that of a position exactly if the position that it says stands there
-pub stands-number : (n slot rank : ℕ) → slot < 16 → eqb n (slot + 1 + 256 * rank) ≡ standsAt slot rank (positionOf n)
+-- a number is that of a rank of a queue exactly if the position that it stands for is there
+stands-number : (n slot rank : ℕ) → slot < 16 → eqb n (slot + 1 + 256 * rank) ≡ standsAt slot rank (positionOf n)
 stands-number n slot rank h =
     same-truth _ _
     (λ e. let x : n ≡ slot + 1 + 256 * rank = eqb-true _ _ e in and (eq-eqb (n % 256) (suc slot) (omega arith)) (eq-eqb (n / 256) rank (omega arith)))
@@ -74,24 +73,7 @@ stands-number n slot rank h =
 abbrev pub stood : (slot : ℕ) → List Position → (r : ℕ) → List Bool
 stood slot ps r = mapWithIndex (λ j p. standsAt slot r p) ps
 
--- whether record k does, as its number says
-pub stood-number : (numbers : List ℕ) (slot rank k : ℕ) → slot < 16 → k < length numbers
-    → eqb (getD numbers k 0) (slot + 1 + 256 * rank) ≡ getD (stood slot (positionsOf numbers) rank) k false
-stood-number numbers slot rank k h lt =
-    stands-number (getD numbers k 0) slot rank h
-    ∙ sym (at-mapped (λ j p. standsAt slot rank p) (positionsOf numbers) k noQueue false (omega (arith, length-map numbers positionOf))
-    ∙ ap (standsAt slot rank) (at-map positionOf numbers k 0 noQueue lt))
-
-pub length-stood : (numbers : List ℕ) (slot rank : ℕ) → length (stood slot (positionsOf numbers) rank) ≡ length numbers
-length-stood numbers slot rank = length-mapped (λ j p. standsAt slot rank p) (positionsOf numbers) ∙ length-map numbers positionOf
-
--- ---- The positions of a table, and their numbers
-
--- the first k numbers are those of the first k records
-pub record NumbersUpTo (stride place count : ℕ) (t : List ℕ) (k : ℕ) (numbers : List ℕ) : Type 0 where
-  pub bound : k ≤ count
-  pub size : length numbers ≡ 64
-  pub each : (j : ℕ) → j < k → positionOf (getD numbers j 0) ≡ getD (positions place (records count stride t)) j noQueue
+-- ---- The positions of a table
 
 module _ (stride place count : ℕ) (t : List ℕ) (shape : Shape stride place count (length t)) where
   pub length-positions : length (positions place (records count stride t)) ≡ count
@@ -102,46 +84,13 @@ module _ (stride place count : ℕ) (t : List ℕ) (shape : Shape stride place c
       at-mapped (λ j r. positionIn place r) (records count stride t) j [] noQueue (omega (arith, length-records count stride t))
       ∙ ap (positionIn place) (at-records count stride t j h) ∙ sym (position-slice (j * stride) stride place t (shape .inside))
 
-  pub one-more-number : (k n : ℕ) {numbers : List ℕ} → NumbersUpTo stride place count t k numbers → k < count → count ≤ 64 → positionOf n ≡ positionIn (k * stride + place) t
-      → NumbersUpTo stride place count t (k + 1) (set numbers k n)
-  one-more-number k n {numbers} before h few e =
-      record {
-        bound = omega arith;
-        size = length-set numbers k n ∙ before .size;
-        each = λ j lt.
-            ⊎-elim
-            (λ (x : j ≡ k).
-            subst (λ (i : ℕ). positionOf (getD (set numbers k n) i 0) ≡ getD (positions place (records count stride t)) i noQueue) (sym x)
-            (ap positionOf (getD-set-same numbers k n 0 (omega (arith, before .size))) ∙ e ∙ sym (at-positions k h)))
-            (λ ne. ap positionOf (getD-set-other numbers k j n 0 ne) ∙ before .each j (omega arith)) (same? j k);
-      }
-
-  pub all-numbers : {k : ℕ} {numbers : List ℕ} → NumbersUpTo stride place count t k numbers → count ≤ k → count ≤ 64
-      → positionsOf (take count numbers) ≡ positions place (records count stride t)
-  all-numbers {k} {numbers} up-to last few =
-      let len : length (take count numbers) ≡ count = length-take-le count numbers (omega (arith, up-to .size)) in
-      ext-getD noQueue (positionsOf (take count numbers)) (positions place (records count stride t)) (length-map (take count numbers) positionOf ∙ len ∙ sym length-positions)
-      (λ j lt.
-      let h : j < count = omega (arith, length-map (take count numbers) positionOf) in
-      at-map positionOf (take count numbers) j 0 noQueue (omega arith) ∙ ap positionOf (getD-take count numbers j 0 h) ∙ up-to .each j (omega arith))
-
-  -- numbers that say the positions of the table are as many as its records
-  pub length-numbers : (numbers : List ℕ) → positionsOf numbers ≡ positions place (records count stride t) → length numbers ≡ count
-  length-numbers numbers same = sym (length-map numbers positionOf) ∙ ap length same ∙ length-positions
-
 -- ---- The ranks of one queue
 
 -- the part of the table that can be in the queue, as it was computed
 pub part-is : {slot from size from′ size′ : ℕ} {ps : List Position} → from ≡ from′ → size ≡ size′ → Among slot from′ (from′ + size′) ps → Among slot from (from + size) ps
 part-is e f a = rw (e, f) a
 
-pub numbers-among : (messages : Bool) (numbers : List ℕ) {ps : List Position} {count : ℕ} → positionsOf numbers ≡ ps → length numbers ≡ count
-    → ((slot : ℕ) → slot < 16 → Among slot (partStart messages slot) (partStart messages slot + partSize messages count slot) ps)
-    → (slot : ℕ) → slot < 16 → Among slot (partStart messages slot) (partStart messages slot + partSize messages (length numbers) slot) (positionsOf numbers)
-numbers-among true numbers same long a slot h = rw same (a slot h)
-numbers-among false numbers same long a slot h = rw (same, long) (a slot h)
-
-pub stood-outside : (slot : ℕ) (ps : List Position) {from to : ℕ} → Among slot from to ps → (r j : ℕ) → (from ≤ j → j < to → ⊥) → getD (stood slot ps r) j false ≡ false
+stood-outside : (slot : ℕ) (ps : List Position) {from to : ℕ} → Among slot from to ps → (r j : ℕ) → (from ≤ j → j < to → ⊥) → getD (stood slot ps r) j false ≡ false
 stood-outside slot ps {from} {to} a r j out = ⊎-elim (λ lt. ⊎-elim (λ e. absurd (there lt e)) (λ e. e) (either (getD (stood slot ps r) j false))) past (lt-or-ge j (length ps))
   where
     past : length ps ≤ j → getD (stood slot ps r) j false ≡ false
@@ -153,58 +102,58 @@ stood-outside slot ps {from} {to} a r j out = ⊎-elim (λ lt. ⊎-elim (λ e. a
         out (a .start j lt q) (a .stop j lt q)
 
 -- Of the records from `from` on, before k, `found` stand at the rank.
-pub record Counted (numbers : List ℕ) (slot rank from to found k : ℕ) : Type 0 where
+pub record Counted (ps : List Position) (slot rank from to found k : ℕ) : Type 0 where
   pub start : from ≤ k
   pub stop : k ≤ to
   pub few : found ≤ k
-  pub rest : found + countTrue (drop k (stood slot (positionsOf numbers) rank)) ≡ countTrue (stood slot (positionsOf numbers) rank)
+  pub rest : found + countTrue (drop k (stood slot ps rank)) ≡ countTrue (stood slot ps rank)
 
-module _ (numbers : List ℕ) (slot rank : ℕ) {from to : ℕ} (among : Among slot from to (positionsOf numbers)) where
-  pub none-counted : from ≤ to → Counted numbers slot rank from to 0 from
+module _ (ps : List Position) (slot rank : ℕ) {from to : ℕ} (among : Among slot from to ps) where
+  pub none-counted : from ≤ to → Counted ps slot rank from to 0 from
   none-counted h =
       record {
         start = omega arith;
         stop = h;
         few = omega arith;
-        rest = zero-add _ ∙ count-before (stood slot (positionsOf numbers) rank) from (λ j lt. stood-outside slot (positionsOf numbers) among rank j (λ le _. omega arith));
+        rest = zero-add _ ∙ count-before (stood slot ps rank) from (λ j lt. stood-outside slot ps among rank j (λ le _. omega arith));
       }
 
-  pub record-inside : {k : ℕ} → k < to → k < length numbers
-  record-inside h = omega (arith, among .inside, length-map numbers positionOf)
-
-  pub one-more-counted : {found k one wanted : ℕ} → Counted numbers slot rank from to found k → k < to → slot < 16 → wanted ≡ slot + 1 + 256 * rank
-      → one ≡ (if eqb (getD numbers k 0) wanted then 1 else 0) → one ≤ 1 → Counted numbers slot rank from to (found + one) (k + 1)
-  one-more-counted {found} {k} {one} before h small w said le =
+  -- record k was read as a number
+  pub one-more-counted : (number : ℕ) {found k one wanted : ℕ} → Counted ps slot rank from to found k → k < to → slot < 16 → positionOf number ≡ getD ps k noQueue
+      → wanted ≡ slot + 1 + 256 * rank → one ≡ (if eqb number wanted then 1 else 0) → one ≤ 1 → Counted ps slot rank from to (found + one) (k + 1)
+  one-more-counted number {found} {k} before h small read w said le =
+      let lt : k < length ps = omega (arith, among .inside) in
+      let is : eqb number (slot + 1 + 256 * rank) ≡ getD (stood slot ps rank) k false =
+      stands-number number slot rank small ∙ ap (standsAt slot rank) read ∙ sym (at-mapped (λ j p. standsAt slot rank p) ps k noQueue false lt) in
       record {
         start = omega (arith, before .start);
         stop = omega arith;
         few = omega (arith, before .few);
         rest =
-            ap (λ (m : ℕ). found + m + countTrue (drop (k + 1) (stood slot (positionsOf numbers) rank)))
-            (said ∙ ap {B = ℕ} (λ (n : ℕ). if eqb (getD numbers k 0) n then 1 else 0) w ∙ ap {B = ℕ} (λ (b : Bool). if b then 1 else 0) (stood-number numbers slot rank k small (record-inside h)))
-            ∙ count-more (stood slot (positionsOf numbers) rank) k found (omega (arith, record-inside h, length-stood numbers slot rank)) (before .rest);
+            ap (λ (m : ℕ). found + m + countTrue (drop (k + 1) (stood slot ps rank)))
+            (said ∙ ap {B = ℕ} (λ (n : ℕ). if eqb number n then 1 else 0) w ∙ ap {B = ℕ} (λ (b : Bool). if b then 1 else 0) is)
+            ∙ count-more (stood slot ps rank) k found (omega (arith, length-mapped (λ j p. standsAt slot rank p) ps)) (before .rest);
       }
 
-  pub all-counted : {found k : ℕ} → Counted numbers slot rank from to found k → to ≤ k → found ≡ countTrue (stood slot (positionsOf numbers) rank)
-  all-counted {found} {k} up-to h =
-      count-after (stood slot (positionsOf numbers) rank) k found (λ j le. stood-outside slot (positionsOf numbers) among rank j (λ _ lt. omega arith)) (up-to .rest)
+  pub all-counted : {found k : ℕ} → Counted ps slot rank from to found k → to ≤ k → found ≡ countTrue (stood slot ps rank)
+  all-counted {found} {k} up-to h = count-after (stood slot ps rank) k found (λ j le. stood-outside slot ps among rank j (λ _ lt. omega arith)) (up-to .rest)
 
 -- Each rank below `rank` is found exactly once, and the answer is still that they all are.
-pub record RankedUpTo (numbers : List ℕ) (slot n : ℕ) (good : Bool) (rank : ℕ) : Type 0 where
+pub record RankedUpTo (ps : List Position) (slot n : ℕ) (good : Bool) (rank : ℕ) : Type 0 where
   pub bound : rank ≤ n
   pub answer : good ≡ true
-  pub once : (r : ℕ) → r < rank → countTrue (stood slot (positionsOf numbers) r) ≡ 1
+  pub once : (r : ℕ) → r < rank → countTrue (stood slot ps r) ≡ 1
 
-pub no-rank : {numbers : List ℕ} {slot n : ℕ} {good : Bool} → good ≡ true → RankedUpTo numbers slot n good 0
+pub no-rank : {ps : List Position} {slot n : ℕ} {good : Bool} → good ≡ true → RankedUpTo ps slot n good 0
 no-rank e = record { bound = omega arith; answer = e; once = λ r lt. absurd (omega arith) }
 
-pub one-more-rank : {numbers : List ℕ} {slot n : ℕ} {good : Bool} {rank : ℕ} → RankedUpTo numbers slot n good rank → rank < n
-    → countTrue (stood slot (positionsOf numbers) rank) ≡ 1 → RankedUpTo numbers slot n good (rank + 1)
-one-more-rank {numbers} {slot} {n} {good} {rank} before h e =
+pub one-more-rank : {ps : List Position} {slot n : ℕ} {good : Bool} {rank : ℕ} → RankedUpTo ps slot n good rank → rank < n
+    → countTrue (stood slot ps rank) ≡ 1 → RankedUpTo ps slot n good (rank + 1)
+one-more-rank {ps} {slot} {n} {good} {rank} before h e =
     record {
       bound = omega arith;
       answer = before .answer;
-      once = λ r lt. ⊎-elim (λ (x : r ≡ rank). subst (λ (i : ℕ). countTrue (stood slot (positionsOf numbers) i) ≡ 1) (sym x) e) (λ ne. before .once r (omega arith)) (same? r rank);
+      once = λ r lt. ⊎-elim (λ (x : r ≡ rank). subst (λ (i : ℕ). countTrue (stood slot ps i) ≡ 1) (sym x) e) (λ ne. before .once r (omega arith)) (same? r rank);
     }
 
 ranks-hold : (slot n : ℕ) (ps : List Position) → ((j : ℕ) → j < length ps → getD ps j noQueue .queue ≡ suc slot → getD ps j noQueue .rank < n)

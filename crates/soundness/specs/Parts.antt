@@ -1,5 +1,5 @@
 -- What the parts of the search look at, and what they pass on.
-use Rattle.ranks.specs.Prelude.{ℕ, suc, pred, _/_, _%_, _≤_, _<_, _≡_, Bool, true, false, List, [], map, length, getD, eqb, ltb, _&&_, _||_}
+use Rattle.ranks.specs.Prelude.{ℕ, suc, pred, _/_, _%_, _≤_, _<_, _≡_, Bool, true, false, List, [], length, getD, eqb, ltb, _&&_, _||_}
 use Rattle.ranks.specs.Lists.{if_then_else_, _implies_, mapWithIndex}
 use Rattle.ranks.specs.Position.{Position, noQueue, inQueue}
 use Rattle.ranks.specs.Table.{records, positionIn}
@@ -63,9 +63,6 @@ pub record Among (slot from to : ℕ) (ps : List Position) : Type 0 where
 -- the position that is the number queue + 256 x rank
 abbrev pub positionOf : ℕ → Position
 positionOf n = record { queue = n % 256; rank = n / 256 }
-
-abbrev pub positionsOf : List ℕ → List Position
-positionsOf numbers = map positionOf numbers
 
 -- ---- Priorities
 

@@ -2,11 +2,11 @@
 ghost use mathlib.Core.Path.{_≡_};
 ghost use mathlib.Core.Bool.{true};
 ghost use Prim.Native.Nat.{ℕ, _+_, _*_, _≤_, _<_};
-ghost use lib.ListN.{length, take};
+ghost use lib.ListN.{length};
 ghost use Rattle.ranks.specs.Lists.{if_then_else_, every};
 ghost use Rattle.ranks.specs.Table.{records, positionIn, Shape};
 ghost use Rattle.records.specs.Bytes.{decodeQueues};
-ghost use Rattle.soundness.specs.Parts.{positions, positionOf, positionsOf, held, belowCount, partStart, partSize, Among, queueRanked};
+ghost use Rattle.soundness.specs.Parts.{positions, positionOf, held, belowCount, partStart, partSize, Among, queueRanked};
 use records::bytes::wide;
 use records::queue::QueueRecord;
 use records::queue::read_queue;
@@ -46,7 +46,7 @@ fn part_size(slot: usize, messages: bool, count: usize) -> usize
     count
 }
 
-// The position in the two bytes at this place, as one number: its queue + 256 x its rank.
+// The position in the two bytes at this place, as one number: its queue + 256 x its rank. One comparison then tests both.
 fn read_number(t: &[u8], at: usize) -> u16
     requires { ⌜ at + 1 < length (now t) ⌝ }
     ensures { λ r. ⌜ positionOf r ≡ positionIn at (now (t .entry)) ⌝ }
@@ -54,20 +54,6 @@ fn read_number(t: &[u8], at: usize) -> u16
     let queue = wide(t[at]);
     let rank = wide(t[at + 1]);
     (queue + 256 * rank) as u16
-}
-
-// The positions of all records as numbers, side by side, so that a loop over records compares several at once.
-fn read_numbers(t: &[u8], stride: usize, place: usize, count: usize) -> [u16; 64]
-    requires { ⌜ Shape stride place count (length (now t)) × (count ≤ 64) ⌝ }
-    ensures { λ r. ⌜ positionsOf (take count r) ≡ positions place (records count stride (now (t .entry))) ⌝ }
-{
-    let mut numbers = [0u16; 64];
-    let mut k = 0;
-    while k < count {
-        numbers[k] = read_number(t, k * stride + place);
-        k += 1;
-    }
-    numbers
 }
 
 // The number of the position at the rank of the queue in the slot.
@@ -86,35 +72,6 @@ fn one(b: bool) -> u16
 
 // For each live queue, its messages or waiters carry the ranks below their count, each exactly once: queue by queue, rank by rank, over the
 // records that can be in the queue. No record has a rank at its queue's count or above, so that a queue that holds nothing has no record.
-fn each_rank_once(queues: &[u8], numbers: &[u16], messages: bool) -> bool
-    requires { ⌜ (length (now queues) ≡ 256) × ((length (now numbers) ≤ 64) × ((every (λ j p. belowCount messages (decodeQueues (now queues)) p) (positionsOf (now numbers)) ≡ true)
-        × ((slot : ℕ) → slot < 16 → Among slot (partStart messages slot) (partStart messages slot + partSize messages (length (now numbers)) slot) (positionsOf (now numbers))))) ⌝ }
-    ensures { λ r. ⌜ r ≡ every (queueRanked messages (positionsOf (now (numbers .entry)))) (decodeQueues (now (queues .entry))) ⌝ }
-{
-    let mut good = true;
-    'search: for slot in 0..16 {
-        let q = read_queue(queues, slot);
-        let n = held(q, messages);
-        if (q.live == 1) & (n != 0) {
-            let from = part_start(slot, messages);
-            let to = from + part_size(slot, messages, numbers.len());
-            'ranks: for rank in 0..n {
-                let wanted = number_at(slot, rank);
-                let mut found: u16 = 0;
-                'records: for k in from..to {
-                    found = found + one(numbers[k] == wanted);
-                }
-                if found != 1 {
-                    good = false;
-                    break 'search;
-                }
-            }
-        }
-    }
-    good
-}
-
-// For each live queue, its messages or waiters carry the ranks below their count, each exactly once.
 pub fn every_ranked(
     queues: &[u8],
     t: &[u8],
@@ -128,6 +85,25 @@ pub fn every_ranked(
         × ((slot : ℕ) → slot < 16 → Among slot (partStart messages slot) (partStart messages slot + partSize messages count slot) (positions place (records count stride (now t))))))) ⌝ }
     ensures { λ r. ⌜ r ≡ every (queueRanked messages (positions place (records count stride (now (t .entry))))) (decodeQueues (now (queues .entry))) ⌝ }
 {
-    let numbers = read_numbers(t, stride, place, count);
-    each_rank_once(queues, &numbers[0..count], messages)
+    let mut good = true;
+    'search: for slot in 0..16 {
+        let q = read_queue(queues, slot);
+        let n = held(q, messages);
+        if (q.live == 1) & (n != 0) {
+            let from = part_start(slot, messages);
+            let to = from + part_size(slot, messages, count);
+            'ranks: for rank in 0..n {
+                let wanted = number_at(slot, rank);
+                let mut found: u16 = 0;
+                'records: for k in from..to {
+                    found = found + one(read_number(t, k * stride + place) == wanted);
+                }
+                if found != 1 {
+                    good = false;
+                    break 'search;
+                }
+            }
+        }
+    }
+    good
 }

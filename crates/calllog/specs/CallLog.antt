@@ -167,7 +167,7 @@ readAt log at = if ltb at (length log) then readRecord (slice at recordWidth log
 unfoldable pub placeAfter : (log : List ℕ) (at : ℕ) → ℕ
 placeAfter log at = if ltb at (length log) then min (at + recordWidth) (length log) else at
 
--- both
+-- what a reader yields, and the place that it moves on to
 abbrev pub readingAt : (log : List ℕ) (at : ℕ) → Reading
 readingAt log at = record { result = readAt log at; next = placeAfter log at }
 

@@ -75,6 +75,10 @@ infix 60 _of_
 abbrev pub _of_ : Field → List ℕ → ℕ
 _of_ field r = fromLittleEndian (bytesOf field r)
 
+-- the bytes from the message field's place on, which a short part may not have
+abbrev pub messageOf : List ℕ → List ℕ
+messageOf r = drop (message .place) r
+
 -- ---- The rows: "A fixed row per operation says which fields it may use".
 
 -- the row of an operation is at its number
@@ -163,7 +167,7 @@ readAt log at = if ltb at (length log) then readRecord (slice at recordWidth log
 unfoldable pub placeAfter : (log : List ℕ) (at : ℕ) → ℕ
 placeAfter log at = if ltb at (length log) then min (at + recordWidth) (length log) else at
 
--- both
+-- what a reader yields, and the place that it moves on to
 abbrev pub readingAt : (log : List ℕ) (at : ℕ) → Reading
 readingAt log at = record { result = readAt log at; next = placeAfter log at }
 
@@ -176,11 +180,11 @@ answerBytes status firstByte value mask =
 
 -- ---- For the code
 
--- the bit of a field in a row: that of its place in `fields`
-unfoldable pub bitsIn : List Field → (fields : List Field) (bit : ℕ) → ℕ
+-- the bits of those of the fields that a row names: `bit` for the first field, twice as much for the second and so on
+unfoldable pub bitsIn : (row fields : List Field) (bit : ℕ) → ℕ
 bitsIn row [] bit = 0
-bitsIn row (f ∷ fs) bit = (if names row f then bit else 0) + bitsIn row fs (bit * 2)
+bitsIn row (field ∷ rest) bit = (if names row field then bit else 0) + bitsIn row rest (bit * 2)
 
--- a row as a number: 1 for the first of the fields, 2 for the second and so on
+-- a row as a number
 unfoldable pub bitsOf : List Field → ℕ
 bitsOf row = bitsIn row fields 1

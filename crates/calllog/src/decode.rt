@@ -26,7 +26,7 @@ fn zero_after(r: &[u8], size: u8) -> bool
     zeros_from(r, 16 + wide(size))
 }
 
-// What the row of the operation does not name is zero, and the size and the message are as they should be.
+// "Anything else not zero, a size above 120" is malformed: a field that the row does not name is zero, and so is what follows the message.
 fn keeps_row(operation: usize, r: &[u8]) -> bool
     requires { ⌜ length (now r) ≡ 136 ⌝ }
     ensures { λ x. ⌜ x ≡ keepsRow (rowOf operation) (now (r .entry)) ⌝ }

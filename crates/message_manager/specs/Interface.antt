@@ -1,5 +1,5 @@
 -- The C interface: what each function returns, the bytes that it leaves in the answer buffer, and the tables that it leaves.
-use Rattle.ranks.specs.Prelude.{ℕ, List, length, drop, eqb}
+use Rattle.ranks.specs.Prelude.{ℕ, List, length, eqb}
 use Rattle.ranks.specs.Lists.{if_then_else_}
 use Rattle.ranks.specs.Table.{byte}
 use Rattle.records.specs.Bytes.{Tables}
@@ -7,7 +7,7 @@ use Rattle.records.specs.Status.{SUCCESSFUL, BAD-SHAPE}
 use Rattle.specification.specs.Answer.{Outcome}
 use Rattle.specification.specs.Call.{Operation, Call, delete, send, urgent, broadcast, receive, getNumberPending, flush, create, ident, onQueue, call, tick}
 use Rattle.specification.specs.Step.{step}
-use Rattle.calllog.specs.CallLog.{readRecord}
+use Rattle.calllog.specs.CallLog.{readRecord, messageOf}
 use Rattle.runs.specs.Replay.{answerRecord, outcomeFor, ReplayedInto, replayedInto}
 
 pub record Returned : Type 0 where
@@ -50,7 +50,7 @@ called lent t c = answeredInto lent t (callNumber c) (step t c)
 
 -- a call record; one of another length than 136 bytes is malformed
 abbrev pub calledRecord : (lent : List ℕ) → Tables → (bytes : List ℕ) → Returned
-calledRecord lent t bytes = answeredInto lent t (byte 0 bytes) (outcomeFor t (readRecord bytes) (drop 16 bytes))
+calledRecord lent t bytes = answeredInto lent t (byte 0 bytes) (outcomeFor t (readRecord bytes) (messageOf bytes))
 
 -- ---- A log
 

@@ -1,5 +1,5 @@
 -- Document 01, "The call log": a log replayed over the tables, and what is written of it.
-use Rattle.ranks.specs.Prelude.{ℕ, _+_, _*_, _/_, _≤_, _<_, _≡_, Bool, true, false, List, [], _∷_, _++_, length, take, drop, leb}
+use Rattle.ranks.specs.Prelude.{ℕ, _+_, _*_, _/_, _≤_, _<_, _≡_, Bool, true, false, List, [], _∷_, _++_, length, take, leb}
 use Rattle.ranks.specs.Lists.{if_then_else_}
 use Rattle.ranks.specs.Table.{byte, slice, records, spliced}
 use Rattle.records.specs.Bytes.{Tables}
@@ -9,7 +9,7 @@ use Rattle.specification.specs.Answer.{Answer, Outcome, refuse, firstStatus}
 use Rattle.specification.specs.Call.{Directive, Call, create, ident, onQueue, delete, send, urgent, broadcast, receive, getNumberPending, flush, call, tick}
 use Rattle.specification.specs.Step.{step}
 use Rattle.manager.specs.Outcomes.{tableRefusals}
-use Rattle.calllog.specs.CallLog.{recordWidth, readRecord, placeAfter, answerBytes}
+use Rattle.calllog.specs.CallLog.{recordWidth, readRecord, placeAfter, messageOf, answerBytes}
 use Rattle.calllog.specs.declared.call.Directive.{Directive as LogDirective}
 use Rattle.calllog.specs.declared.call.Directive.the-variants.{Create, Ident, Delete, Send, Urgent, Broadcast, Receive, Pending, Flush}
 use Rattle.calllog.specs.declared.call.Call.{Call as LogCall}
@@ -52,7 +52,7 @@ pub record Replayed : Type 0 where
 
 -- one record of a log, or its short last part, of which the reader says this
 unfoldable pub replayFound : Tables → LogResult → List ℕ → Replayed
-replayFound t found r = let o = outcomeFor t found (drop 16 r) in record { answers = answerRecord (o .answer) (byte 0 r); after = o .after }
+replayFound t found r = let o = outcomeFor t found (messageOf r) in record { answers = answerRecord (o .answer) (byte 0 r); after = o .after }
 
 unfoldable pub replayRecord : Tables → List ℕ → Replayed
 replayRecord t r = replayFound t (readRecord r) r

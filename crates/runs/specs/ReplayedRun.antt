@@ -7,7 +7,7 @@ use Rattle.records.specs.Status.{BAD-SHAPE}
 use Rattle.specification.specs.Answer.{Answer}
 use Rattle.specification.specs.Call.{Call}
 use Rattle.specification.specs.Run.{Event, run}
-use Rattle.calllog.specs.CallLog.{readRecord}
+use Rattle.calllog.specs.CallLog.{readRecord, messageOf}
 use Rattle.calllog.specs.declared.call.LogResult.{LogResult}
 use Rattle.calllog.specs.declared.call.LogResult.the-variants.{WellFormed, Malformed, End}
 use Rattle.runs.specs.Replay.{callOf, answerRecord, recordsOf, replayed}
@@ -23,19 +23,19 @@ callSaid End message = []
 -- of the records of a log, in order
 unfoldable pub callsOf : (records : List (List ℕ)) → List Call
 callsOf [] = []
-callsOf (r ∷ rs) = callSaid (readRecord r) (drop 16 r) ++ callsOf rs
+callsOf (r ∷ rs) = callSaid (readRecord r) (messageOf r) ++ callsOf rs
 
 abbrev pub callsIn : (log : List ℕ) → List Call
 callsIn log = callsOf (recordsOf log)
 
--- ---- What is written of a log whose calls were answered so
+-- ---- What is written of a log whose calls got the answers of a run
 
 -- "16", with value and mask 0
 abbrev pub malformed : Answer
 malformed = record { status = BAD-SHAPE; value = 0; woken = 0 }
 
--- The answer record of a record that says so and has the first byte given, then what `rest` makes of the events that are left: the next event
--- is that of the record's call. (A call has its event.)
+-- The answer record of a record that says this and has the first byte given, then what `rest` makes of the events that are left. The next event
+-- is that of the record's call, and where there is none nothing is written.
 unfoldable pub writtenFor : LogResult → (firstByte : ℕ) → (rest : List Event → List ℕ) → List Event → List ℕ
 writtenFor (WellFormed c) firstByte rest [] = []
 writtenFor (WellFormed c) firstByte rest (e ∷ es) = answerRecord (e .answer) firstByte ++ rest es
@@ -57,7 +57,7 @@ answerIn r = record { status = byte 0 r; value = fromLittleEndian (slice 4 4 r);
 unfoldable pub eventsFrom : (records : List (List ℕ)) (answers : List ℕ) → List Event
 eventsFrom [] answers = []
 eventsFrom (r ∷ rs) answers =
-    map (λ c. record { call = c; answer = answerIn (take 16 answers) }) (callSaid (readRecord r) (drop 16 r)) ++ eventsFrom rs (drop 16 answers)
+    map (λ c. record { call = c; answer = answerIn (take 16 answers) }) (callSaid (readRecord r) (messageOf r)) ++ eventsFrom rs (drop 16 answers)
 
 -- of a log replayed from tables
 abbrev pub eventsOf : Tables → (log : List ℕ) → List Event
@@ -71,9 +71,11 @@ pub record OfBytes (t : Tables) : Type 0 where
   pub pool : AllBytes (t .pool)
   pub tasks : AllBytes (t .tasks)
 
+-- The calls of a log are a run: "Each call or tick gets the three tables as the one before left them, refused or not".
 pub record ReplayIsRun : Type 0 where
-  -- on any tables, for any log
+  -- on any tables and for any log, the tables after it are those after the run
   pub after : (t : Tables) (log : List ℕ) → replayed t log .after ≡ run t (callsIn log) .tables
+  -- and what is written is the answers of the run, with a 16 for each record that is no call
   pub answers : (t : Tables) (log : List ℕ) → replayed t log .answers ≡ written (recordsOf log) (run t (callsIn log) .events)
-  -- of bytes: what is written tells each call's answer
+  -- on tables of bytes and for a log of bytes, the answers can be read back from what is written
   pub events : (t : Tables) (log : List ℕ) → OfBytes t → AllBytes log → eventsOf t log ≡ run t (callsIn log) .events

@@ -1,8 +1,9 @@
 // A whole log replayed over the tables.
 ghost use mathlib.Core.Path.{_≡_};
 ghost use Prim.Native.Nat.{_*_, _≤_, _<_};
-ghost use lib.ListN.{length, drop};
+ghost use lib.ListN.{length};
 ghost use Rattle.manager.specs.Outcomes.{tables};
+ghost use Rattle.calllog.specs.CallLog.{messageOf};
 ghost use Rattle.runs.specs.Replay.{Tested, NextRecord, replayFound, replayedAt, countOf, replayedFront, replayedInto};
 use crate::answer::answer;
 use crate::answer::answer_record;
@@ -14,7 +15,7 @@ use records::status::Verdict;
 
 // The message field of a record, which a short part may not have.
 pub fn message_field(part: &[u8]) -> &[u8]
-    ensures { λ r. ⌜ now r ≡ drop 16 (now (part .entry)) ⌝ }
+    ensures { λ r. ⌜ now r ≡ messageOf (now (part .entry)) ⌝ }
 {
     let n = part.len();
     if n < 16 {

@@ -12,8 +12,8 @@ pub data Writes (to : Output) (bytes : List ℕ) (done : Bool) : Type 0 where
 
 -- Answers are written where they are asked for; where nobody asks, all is done.
 pub data WritesAnswers (to : Output) (answering : Bool) (bytes : List ℕ) (done : Bool) : Type 0 where
-  written : answering ≡ true → Writes to bytes done → WritesAnswers to answering bytes done
-  unasked : answering ≡ false → done ≡ true → WritesAnswers to answering bytes done
+  wanted : answering ≡ true → Writes to bytes done → WritesAnswers to answering bytes done
+  unwanted : answering ≡ false → done ≡ true → WritesAnswers to answering bytes done
 
 -- what a message names as failed: the bytes of "standard input" and "standard output"
 unfoldable pub inputName : List ℕ

@@ -93,7 +93,7 @@ none-yet t = refl
 pub after-turns : {answering : Bool} {ending : Ending} {left : Tables} {count : ℕ} {start : Tables} (ts : Turns answering ending left count start)
     → left ≡ replayed start (logOf ts) .after
 unfolding logOf
-after-turns (last t e) = t .after
+after-turns (last c t e) = t .after
 after-turns {start = start} (Turns.more c t e rest) =
     after-turns rest ∙ ap (λ (s : Tables). replayed s (logOf rest) .after) (t .after) ∙ block-then start (take (t .filled .n) (t .block)) (logOf rest) (full-block t e)
 after-turns {left = left} (spent c e) = none-yet left

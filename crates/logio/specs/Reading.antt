@@ -12,6 +12,7 @@ abbrev pub standardInput : Input
 standardInput = record { fd = pos 0 }
 
 -- A read from a descriptor behind the first `n` bytes of a buffer, which the system answers with `got`: the bytes already there stay.
+-- The descriptor is the one that the system was asked to read; nothing follows from it.
 pub record ReadBehind (from : Input) (n : ℕ) (old : List ℕ) (got : ℤ) (new : List ℕ) : Type 0 where
   pub moved : Moved (length old - n) got
   pub kept : take n new ≡ take n old
@@ -36,8 +37,8 @@ filled n = record { n = n; failed = false }
 abbrev pub notFilled : Filled
 notFilled = record { n = 0; failed = true }
 
--- Reads from a descriptor behind the first `n` bytes of the buffer `old`, which leave `new`, come to `f`: they go on until the buffer is full, the
--- input has ended or one has failed.
+-- Reads from a descriptor behind the first `n` bytes of the buffer `old`, which leave `new`, come to `f`: they go on until the buffer is
+-- full, the input has ended or one has failed.
 pub data Fills (from : Input) (f : Filled) (new : List ℕ) : (n : ℕ) (old : List ℕ) → Type 0 where
   full : {n : ℕ} → n ≡ length new → f ≡ filled n → Fills from f new n new
   ended : {n : ℕ} {old : List ℕ} → ReadMore from n old Ended new → f ≡ filled n → Fills from f new n old

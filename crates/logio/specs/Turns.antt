@@ -9,7 +9,7 @@ use Rattle.logio.specs.declared.reading.Filled.{Filled}
 use Rattle.logio.specs.declared.input.Ending.{Ending}
 use Rattle.logio.specs.declared.input.Ending.the-variants.{GoesOn, Complete, NotRead, NotWritten}
 use Rattle.logio.specs.Reading.{standardInput, Fills}
-use Rattle.logio.specs.Writing.{standardOutput, WritesAnswers}
+use Rattle.logio.specs.Writing.{standardOutput, WritesAnswers, inputName, outputName, Says}
 
 -- a block has whole records
 abbrev pub blockBytes : ℕ
@@ -41,15 +41,15 @@ pub record Turn (answering : Bool) (start : Tables) (ending : Ending) (left : Ta
   pub finished : Finished answering (filled .n) (filled .failed) (replayed start (take (filled .n) block) .answers) ending
   pub after : left ≡ replayed start (take (filled .n) block) .after
 
--- At most `count` turns: each but the last says that the log goes on, and the last does not, or it is the last of them all.
+-- At most `count` turns: each but the last says that the log goes on, and the last does not, unless the turns are used up.
 pub data Turns (answering : Bool) (ending : Ending) (left : Tables) : (count : ℕ) (start : Tables) → Type 0 where
-  last : {count : ℕ} {start : Tables} → Turn answering start ending left → goesOn ending ≡ false → Turns answering ending left count start
+  last : {count fewer : ℕ} {start : Tables} → count ≡ suc fewer → Turn answering start ending left → goesOn ending ≡ false → Turns answering ending left count start
   more : {count fewer : ℕ} {start next : Tables} {e : Ending} → count ≡ suc fewer → Turn answering start e next → goesOn e ≡ true → Turns answering ending left fewer next → Turns answering ending left count start
   spent : {count : ℕ} → count ≡ 0 → ending ≡ GoesOn → Turns answering ending left count left
 
 -- the log that the turns replay
 unfoldable pub logOf : {answering : Bool} {ending : Ending} {left : Tables} {count : ℕ} {start : Tables} → Turns answering ending left count start → List ℕ
-logOf (last t e) = take (t .filled .n) (t .block)
+logOf (last c t e) = take (t .filled .n) (t .block)
 logOf (more c t e rest) = take (t .filled .n) (t .block) ++ logOf rest
 logOf (spent c e) = []
 
@@ -57,3 +57,10 @@ logOf (spent c e) = []
 pub record ReplayedInTurns (answering : Bool) (start : Tables) (ending : Ending) (left : Tables) : Type 0 where
   pub turns : Turns answering ending left 18446744073709551615 start
   pub after : left ≡ replayed start (logOf turns) .after
+
+-- What is said of a log: nothing where it was replayed to its end, and else what failed.
+pub data Tells : Ending → Type 0 where
+  nothing : Tells Complete
+  input : Says inputName → Tells NotRead
+  output : Says outputName → Tells NotWritten
+  endless : Says inputName → Tells GoesOn

@@ -29,8 +29,9 @@ returns : tie.Need-returns Inv-loop μ-loop
 returns c =
     let t = c .before .before .before .before .before .before .before .before in
     let v = t .before .before .before .before .before .loop in
+    let fewer : v .turns ≡ suc (v .turns - 1) = omega (arith, t .before .before .before .before .loop-test .taken) in
     let ends = sym (c .before .goes-on .ensures) ∙ not-true _ (c .if1 .taken) in
-    let turns = v .inv .0 _ _ (last (t .turn .ensures) ends) in
+    let turns = v .inv .0 _ _ (last fewer (t .turn .ensures) ends) in
     record { turns = turns; after = after-turns turns }
 
 loop-again : tie.Need-loop-again Inv-loop μ-loop

@@ -1,15 +1,26 @@
 -- A log replayed block by block is the whole log replayed, where each block but the last has whole records. Assumes nothing.
 use native.Mathlib.Omega.{arith}
 use native.Mathlib.Nat.{zero-add, suc-add, zero-mul, suc-mul, not-suc-le-zero}
-use Prim.Native.Nat.{ℕ, zero, suc, _+_, _*_, _/_, _≤_}
-use mathlib.Core.Path.{_≡_, refl, sym, ap, ap₂, _∙_}
+use borrow.Author.Tests.{ltb-false}
+use Prim.Native.Nat.{ℕ, zero, suc, _+_, _*_, _/_, _≤_, zero-le}
+use mathlib.Core.Bool.{Bool, true, false}
+use mathlib.Core.Path.{_≡_, refl, sym, ap, ap₂, subst, _∙_}
 use mathlib.Core.List.{List, [], _∷_, _++_}
+use lib.Dec.{T, ltb}
 use lib.ListN.{length, take, drop, length-append, length-drop}
 use lib.Seq.{length-take-le, take-append-le, drop-append-le}
+use Rattle.ranks.specs.Lists.{if_then_else_}
 use Rattle.ranks.specs.Table.{records}
 use Rattle.records.specs.Bytes.{Tables}
-use Rattle.runs.specs.Replay.{Replayed, replayRecord, replayRecords, countOf, recordsOf, replayed, replayedFront}
-use Rattle.logio.specs.AfterLog.{AfterLog}
+use Rattle.runs.specs.Replay.{Replayed, replayRecord, replayRecords, countOf, recordsOf, replayed}
+use Rattle.logio.specs.declared.reading.Input.{Input}
+use Rattle.logio.specs.declared.reading.Filled.{Filled}
+use Rattle.logio.specs.declared.input.Ending.{Ending}
+use Rattle.logio.specs.declared.input.Ending.the-variants.{GoesOn, Complete}
+use Rattle.logio.specs.Reading.{standardInput, Fills, full, ended, failed, more}
+use Rattle.logio.specs.Turns.{blockBytes, afterBlock, goesOn, Finished, Turn, Turns, last, spent, logOf}
+use Rattle.logio.specs.Turns as Turns
+use Rattle.logio.proofs.Added.{room-left}
 
 -- one list of records after another
 then-records : (t : Tables) (rs ss : List (List ℕ))
@@ -38,30 +49,66 @@ records-then j a b e =
     let both : (length (a ++ b) + 135) / 136 ≡ j + (length b + 135) / 136 = omega (arith, length-append a b) in
     ap (λ (m : ℕ). records m 136 (a ++ b)) both ∙ cut j _ 136 a b e ∙ ap (λ (m : ℕ). records m 136 a ++ recordsOf b) (sym whole)
 
-pub one-after-another : {t u v : Tables} (j n : ℕ) → AfterLog t (j * 136) u → AfterLog u n v → AfterLog t (j * 136 + n) v
+-- a log whose front is a whole block
+block-then : (t : Tables) (a b : List ℕ) → length a ≡ blockBytes → replayed (replayed t a .after) b .after ≡ replayed t (a ++ b) .after
 unfolding replayed
-one-after-another {t = t} {u = u} j n p q =
-    record {
-      log = p .log ++ q .log;
-      size = length-append (p .log) (q .log) ∙ ap₂ (λ (a : ℕ) (b : ℕ). a + b) (p .size) (q .size);
-      after =
-          q .after ∙ ap (λ (s : Tables). replayed s (q .log) .after) (p .after)
-          ∙ sym (ap (λ (rs : List (List ℕ)). replayRecords t rs .after) (records-then j (p .log) (q .log) (p .size)) ∙ then-records t (recordsOf (p .log)) (recordsOf (q .log)));
-    }
+block-then t a b e =
+    sym (ap (λ (rs : List (List ℕ)). replayRecords t rs .after) (records-then 481 a b e) ∙ then-records t (recordsOf a) (recordsOf b))
 
--- a block that was read and replayed
-pub after-block : (t : Tables) (n : ℕ) (log lent : List ℕ) {u : Tables} {answers : List ℕ} → n ≤ length log
-    → (record { answers = answers; after = u }) ≡ replayedFront t (take n log) lent → AfterLog t n u
-unfolding replayedFront
-after-block t n log lent h e = record { log = take n log; size = length-take-le n log h; after = ap (λ (r : Replayed). r .after) e }
+-- what the reads put into a buffer has room there
+filled-within : {from : Input} {f : Filled} {new old : List ℕ} {n : ℕ} → n ≤ length old → Fills from f new n old → (f .n ≤ length new) × (length new ≡ length old)
+filled-within {new = new} {n = n} h (full e is) = (subst (λ (m : ℕ). m ≤ length new) (sym (ap (λ (f : Filled). f .n) is)) h, refl)
+filled-within {new = new} {n = n} h (ended r is) =
+    let kept : n ≤ length new = omega (arith, r .behind .size) in
+    (subst (λ (m : ℕ). m ≤ length new) (sym (ap (λ (f : Filled). f .n) is)) kept, r .behind .size)
+filled-within {new = new} h (failed r is) = (subst (λ (m : ℕ). m ≤ length new) (sym (ap (λ (f : Filled). f .n) is)) zero-le, r .behind .size)
+filled-within h (more {m = m} {next = next} r rest) =
+    let fits = room-left h r .1 in
+    let room : m ≤ length next = omega (arith, r .behind .size) in
+    let both = filled-within room rest in
+    (both .0, both .1 ∙ r .behind .size)
+
+-- where the log goes on, the block is full
+went-on : (n : ℕ) (failed done : Bool) → goesOn (afterBlock n failed done) ≡ true → blockBytes ≤ n
+went-on n true done e = absurd (subst T (sym e) tt)
+went-on n false false e = absurd (subst T (sym e) tt)
+went-on n false true e = ltb-false n blockBytes (cases (ltb n blockBytes) e)
+  where
+    cases : (short : Bool) → goesOn (if short then Complete else GoesOn) ≡ true → short ≡ false
+    cases true e = absurd (subst T (sym e) tt)
+    cases false e = refl
+
+full-block : {answering : Bool} {start left : Tables} {e : Ending} (t : Turn answering start e left) → goesOn e ≡ true → length (take (t .filled .n) (t .block)) ≡ blockBytes
+full-block t e =
+    let within = filled-within zero-le (t .fills) in
+    let all = went-on (t .filled .n) (t .filled .failed) (t .finished .done) (ap goesOn (sym (t .finished .comes)) ∙ e) in
+    length-take-le (t .filled .n) (t .block) (within .0) ∙ omega (arith, within .0, within .1, all, t .size)
 
 -- before the first block
-pub none-yet : (t : Tables) → AfterLog t (0 * 136) t
+none-yet : (t : Tables) → t ≡ replayed t [] .after
 unfolding replayed recordsOf countOf records replayRecords
-none-yet t = record { log = []; size = refl; after = refl }
+none-yet t = refl
 
--- a full block more
-pub one-more-block : {t u v : Tables} (j n : ℕ) → n ≡ 65416 → AfterLog t (j * 136) u → AfterLog u n v → AfterLog t ((j + 481) * 136) v
-one-more-block j n e p q =
-    let r = one-after-another j n p q in
-    record { log = r .log; size = r .size ∙ omega arith; after = r .after }
+-- the tables after the turns are those after the log
+pub after-turns : {answering : Bool} {ending : Ending} {left : Tables} {count : ℕ} {start : Tables} (ts : Turns answering ending left count start)
+    → left ≡ replayed start (logOf ts) .after
+unfolding logOf
+after-turns (last t e) = t .after
+after-turns {start = start} (Turns.more c t e rest) =
+    after-turns rest ∙ ap (λ (s : Tables). replayed s (logOf rest) .after) (t .after) ∙ block-then start (take (t .filled .n) (t .block)) (logOf rest) (full-block t e)
+after-turns {left = left} (spent c e) = none-yet left
+
+-- a turn, by what was read and written
+pub one-turn : {answering : Bool} {start left : Tables} {ending : Ending} {from : Input} {bytes : List ℕ} (lent block : List ℕ) (filled : Filled) → length lent ≡ blockBytes
+    → from ≡ standardInput → Fills from filled block 0 lent → bytes ≡ replayed start (take (filled .n) block) .answers → Finished answering (filled .n) (filled .failed) bytes ending
+    → left ≡ replayed start (take (filled .n) block) .after → Turn answering start ending left
+one-turn {answering = answering} {ending = ending} lent block filled size e fills is finished after =
+    record {
+      lent = lent;
+      block = block;
+      filled = filled;
+      size = size;
+      fills = subst (λ (i : Input). Fills i filled block 0 lent) e fills;
+      finished = subst (λ (l : List ℕ). Finished answering (filled .n) (filled .failed) l ending) is finished;
+      after = after;
+    }

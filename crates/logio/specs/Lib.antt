@@ -1,3 +1,5 @@
 -- What the contracts of this crate cite.
 pub mod Agreeing
-pub mod AfterLog
+pub mod Reading
+pub mod Turns
+pub mod Writing

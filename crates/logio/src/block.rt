@@ -4,6 +4,9 @@ ghost use Prim.Native.Nat.{_*_, _≤_};
 ghost use lib.ListN.{length, take};
 ghost use Rattle.manager.specs.Outcomes.{tables};
 ghost use Rattle.runs.specs.Replay.{countOf, replayedFront};
+ghost use Rattle.logio.specs.Reading.{Fills};
+use crate::reading::Input;
+use crate::reading::fill;
 use runs::replay::record_count;
 use runs::replay::replay;
 
@@ -13,33 +16,8 @@ pub const BLOCK: usize = 65416;
 // The bytes of their answers.
 pub const ANSWERS: usize = 7696;
 
-// How many bytes stand at a buffer's start, or that a read failed.
-pub struct Filled {
-    pub n: usize,
-    pub failed: bool,
-}
-
-// Reads until the buffer is full, the input ends or a read fails: a pipe hands out any number of bytes at a time.
-pub fn fill(fd: i32, buffer: &mut [u8]) -> Filled
-    ensures { λ r. ⌜ r .n ≤ length (now (buffer .entry)) ⌝ }
-{
-    let mut n = 0;
-    while n < buffer.len() {
-        let got = libc::read(fd, &mut buffer[n..]);
-        if got < 0 {
-            return Filled { n: 0, failed: true };
-        }
-        let m = io::count(got, &buffer[n..]);
-        if m == 0 {
-            return Filled { n, failed: false };
-        }
-        n += m;
-    }
-    Filled { n, failed: false }
-}
-
 // What became of a block of a log.
-pub struct Block {
+pub struct BlockReplayed {
     pub n: usize, // bytes that were read and replayed
     pub end: usize, // bytes of their answer records, at the front of the lent ones
     pub failed: bool, // a read failed, and nothing was replayed
@@ -47,23 +25,24 @@ pub struct Block {
 
 // Reads a block of a log and replays it.
 pub fn replay_block(
-    fd: i32,
+    from: Input,
     queues: &mut [u8],
     pool: &mut [u8],
     tasks: &mut [u8],
     log: &mut [u8],
     answers: &mut [u8],
-) -> Block
+) -> BlockReplayed
     requires { ⌜ countOf (length (now log)) * 16 ≤ length (now answers) ⌝ }
     ensures { λ r. ⌜ ((r .n ≤ length (now (log .entry))) × ((r .end ≡ countOf (r .n) * 16) × (r .end ≤ length (now (answers .entry)))))
+        × (Fills from (record { n = r .n; failed = r .failed }) (now (log .exit)) 0 (now (log .entry))
         × ((record { answers = now (answers .exit); after = tables (now (queues .exit)) (now (pool .exit)) (now (tasks .exit)) })
-        ≡ replayedFront (tables (now (queues .entry)) (now (pool .entry)) (now (tasks .entry))) (take (r .n) (now (log .exit))) (now (answers .entry))) ⌝ }
+        ≡ replayedFront (tables (now (queues .entry)) (now (pool .entry)) (now (tasks .entry))) (take (r .n) (now (log .exit))) (now (answers .entry)))) ⌝ }
 {
-    let f = fill(fd, log);
+    let f = fill(from, log);
     let n = f.n;
     let end = record_count(n) * 16;
     replay(queues, pool, tasks, &log[..n], answers);
-    Block {
+    BlockReplayed {
         n,
         end,
         failed: f.failed,

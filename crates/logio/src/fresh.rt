@@ -4,8 +4,8 @@ ghost use Rattle.ranks.specs.Lists.{numbersFrom};
 ghost use Rattle.specification.specs.Run.{freshTables};
 ghost use Rattle.manager.specs.Outcomes.{tables};
 
-// The three tables as one value.
-pub struct Tables {
+// The bytes of the three tables as one value.
+pub struct TableBytes {
     pub queues: [u8; 256],
     pub pool: [u8; 8192],
     pub tasks: [u8; 4352],
@@ -25,10 +25,10 @@ fn fresh_tasks() -> [u8; 4352]
 }
 
 // "Fresh tables are zero but for priorities."
-pub fn fresh() -> Tables
+pub fn fresh() -> TableBytes
     ensures { λ r. ⌜ tables (r .queues) (r .pool) (r .tasks) ≡ freshTables (numbersFrom 1 32) ⌝ }
 {
-    Tables {
+    TableBytes {
         queues: [0; 256],
         pool: [0; 8192],
         tasks: fresh_tasks(),

@@ -1,60 +1,99 @@
 // A log of any length on standard input, replayed in constant memory.
+ghost use mathlib.Core.Path.{_≡_};
+ghost use Prim.Native.Nat.{_≤_};
+ghost use lib.ListN.{length, take};
 ghost use Rattle.manager.specs.Outcomes.{tables};
-ghost use Rattle.logio.specs.AfterLog.{AfterLog, AfterSomeLog};
+ghost use Rattle.logio.specs.Turns.{afterBlock, Finished, Turn, ReplayedInTurns};
+ghost use Rattle.logio.specs.Turns.{goesOn as Turns·goesOn};
 use crate::block::ANSWERS;
 use crate::block::BLOCK;
+use crate::block::BlockReplayed;
 use crate::block::replay_block;
-use libc::STDIN_FILENO;
-use libc::STDOUT_FILENO;
+use crate::reading::standard_input;
+use crate::writing::standard_output;
+use crate::writing::write_answers;
 
-// What became of a block: how many bytes of the log it has, and whether reading and writing went well.
-struct Turned {
-    n: usize,
-    done: bool,
+// What became of a log.
+pub enum Ending {
+    GoesOn, // it may have more blocks
+    Complete, // it was replayed to its end
+    NotRead, // a read failed
+    NotWritten, // answers could not be written
 }
 
-// What follows a block: a message where the read failed; else its answers are written, if they are asked for. Whether all went well.
-fn write_answers(failed: bool, answering: bool, answers: &[u8]) -> bool {
+// What became of a log after n bytes of a block, whose answers are written if all is done.
+fn after_block(n: usize, failed: bool, done: bool) -> Ending
+    ensures { λ r. ⌜ r ≡ afterBlock n failed done ⌝ }
+{
     if failed {
-        os::fail(b"standard input");
-        return false;
+        return Ending::NotRead;
     }
-    if answering && !io::write_all(STDOUT_FILENO, answers) {
-        os::fail(b"standard output");
-        return false;
+    if !done {
+        return Ending::NotWritten;
     }
-    true
+    if n < BLOCK {
+        return Ending::Complete;
+    }
+    Ending::GoesOn
 }
 
-// Reads a block, replays it and, where they are asked for, writes its answers.
-fn turn(queues: &mut [u8], pool: &mut [u8], tasks: &mut [u8], answering: bool) -> Turned
-    ensures { λ r. ⌜ AfterLog (tables (now (queues .entry)) (now (pool .entry)) (now (tasks .entry))) (r .n)
+fn goes_on(e: Ending) -> bool
+    ensures { λ r. ⌜ r ≡ Turns·goesOn e ⌝ }
+{
+    match e {
+        Ending::GoesOn => true,
+        Ending::Complete => false,
+        Ending::NotRead => false,
+        Ending::NotWritten => false,
+    }
+}
+
+// What follows a block: its answers are written, where they are asked for. After a failed read there are none.
+fn finish(b: BlockReplayed, answering: bool, answers: &[u8]) -> Ending
+    requires { ⌜ b .end ≤ length (now answers) ⌝ }
+    ensures { λ r. ⌜ Finished answering (b .n) (b .failed) (take (b .end) (now (answers .entry))) r ⌝ }
+{
+    let end = b.end;
+    let to = standard_output();
+    let done = write_answers(to, answering, &answers[..end]);
+    after_block(b.n, b.failed, done)
+}
+
+// Reads a block, replays it and writes its answers.
+fn turn(queues: &mut [u8], pool: &mut [u8], tasks: &mut [u8], answering: bool) -> Ending
+    ensures { λ r. ⌜ Turn answering (tables (now (queues .entry)) (now (pool .entry)) (now (tasks .entry))) r
         (tables (now (queues .exit)) (now (pool .exit)) (now (tasks .exit))) ⌝ }
 {
     let mut log = [0u8; BLOCK];
     let mut answers = [0u8; ANSWERS];
-    let b = replay_block(STDIN_FILENO, queues, pool, tasks, &mut log, &mut answers);
-    let end = b.end;
-    let done = write_answers(b.failed, answering, &answers[..end]);
-    Turned { n: b.n, done }
+    let from = standard_input();
+    let b = replay_block(from, queues, pool, tasks, &mut log, &mut answers);
+    finish(b, answering, &answers)
 }
 
-// Replays the log. Whether it was replayed to its end; where a read or a write failed, a message says so.
+// Replays the log, and writes its answers where they are asked for.
 // A proved loop has to end, and nothing says that a log does. So the loop counts its turns down, from a number that no run uses up.
-pub fn replay_input(queues: &mut [u8], pool: &mut [u8], tasks: &mut [u8], answering: bool) -> bool
-    ensures { λ _. ⌜ AfterSomeLog (tables (now (queues .entry)) (now (pool .entry)) (now (tasks .entry)))
+pub fn replay_input(queues: &mut [u8], pool: &mut [u8], tasks: &mut [u8], answering: bool) -> Ending
+    ensures { λ r. ⌜ ReplayedInTurns answering (tables (now (queues .entry)) (now (pool .entry)) (now (tasks .entry))) r
         (tables (now (queues .exit)) (now (pool .exit)) (now (tasks .exit))) ⌝ }
 {
     let mut turns = u64::MAX;
     while turns > 0 {
-        let t = turn(queues, pool, tasks, answering);
-        if !t.done {
-            return false;
-        }
-        if t.n != BLOCK {
-            return true;
+        let e = turn(queues, pool, tasks, answering);
+        if !goes_on(e) {
+            return e;
         }
         turns -= 1;
     }
-    false
+    Ending::GoesOn
+}
+
+// Says on standard error that a log was not replayed to its end.
+pub fn tell(e: Ending) {
+    match e {
+        Ending::Complete => {}
+        Ending::NotWritten => os::fail(b"standard output"),
+        Ending::NotRead => os::fail(b"standard input"),
+        Ending::GoesOn => os::fail(b"standard input"),
+    }
 }

@@ -1,11 +1,13 @@
 // Replays a call log from standard input, from fresh tables, and writes its answer records to standard output.
 use logio::fresh::fresh;
 use logio::input::replay_input;
+use logio::input::tell;
 
 fn main() {
     let t = fresh();
     let mut queues = t.queues;
     let mut pool = t.pool;
     let mut tasks = t.tasks;
-    replay_input(&mut queues, &mut pool, &mut tasks, true);
+    let e = replay_input(&mut queues, &mut pool, &mut tasks, true);
+    tell(e);
 }

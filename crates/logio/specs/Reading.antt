@@ -1,0 +1,45 @@
+-- A buffer filled by reads. No contract can say which bytes a call of the system reads, or how many; it can say what was asked of the
+-- system, and what follows from its answers.
+use Rattle.ranks.specs.Prelude.{ℕ, zero, suc, _+_, _-_, _≡_, true, false, List, length, take}
+use lib.IntN.{ℤ, pos, negsuc}
+use Rattle.libc.specs.Io.{Moved}
+use Rattle.logio.specs.declared.reading.Input.{Input}
+use Rattle.logio.specs.declared.reading.Filled.{Filled}
+use Rattle.logio.specs.declared.reading.Read.{Read}
+use Rattle.logio.specs.declared.reading.Read.the-variants.{More, Ended, Failed}
+
+abbrev pub standardInput : Input
+standardInput = record { fd = pos 0 }
+
+-- A read from a descriptor behind the first `n` bytes of a buffer, which the system answers with `got`: the bytes already there stay.
+pub record ReadBehind (from : Input) (n : ℕ) (old : List ℕ) (got : ℤ) (new : List ℕ) : Type 0 where
+  pub moved : Moved (length old - n) got
+  pub kept : take n new ≡ take n old
+  pub size : length new ≡ length old
+
+-- What it comes to: an answer below 0 is a failure, and 0 is the end of the input.
+unfoldable pub afterRead : ℕ → ℤ → Read
+afterRead n (negsuc k) = Failed
+afterRead n (pos zero) = Ended
+afterRead n (pos (suc k)) = More (n + suc k)
+
+-- A read behind the first `n` bytes comes to `read`.
+pub record ReadMore (from : Input) (n : ℕ) (old : List ℕ) (read : Read) (new : List ℕ) : Type 0 where
+  pub got : ℤ
+  pub behind : ReadBehind from n old got new
+  pub comes : read ≡ afterRead n got
+
+abbrev pub filled : ℕ → Filled
+filled n = record { n = n; failed = false }
+
+-- After a failure nothing counts as read.
+abbrev pub notFilled : Filled
+notFilled = record { n = 0; failed = true }
+
+-- Reads from a descriptor behind the first `n` bytes of the buffer `old`, which leave `new`, come to `f`: they go on until the buffer is full, the
+-- input has ended or one has failed.
+pub data Fills (from : Input) (f : Filled) (new : List ℕ) : (n : ℕ) (old : List ℕ) → Type 0 where
+  full : {n : ℕ} → n ≡ length new → f ≡ filled n → Fills from f new n new
+  ended : {n : ℕ} {old : List ℕ} → ReadMore from n old Ended new → f ≡ filled n → Fills from f new n old
+  failed : {n : ℕ} {old : List ℕ} → ReadMore from n old Failed new → f ≡ notFilled → Fills from f new n old
+  more : {n m : ℕ} {old next : List ℕ} → ReadMore from n old (More m) next → Fills from f new m next → Fills from f new n old

@@ -1,0 +1,59 @@
+-- A log of any length, read and replayed a block at a time. No contract can say which bytes the system hands over; it can say that what
+-- is replayed is what the reads left in the blocks, all of it in order, and when the turns go on.
+use Rattle.ranks.specs.Prelude.{ℕ, suc, _*_, _≡_, Bool, true, false, List, [], _++_, length, take, ltb}
+use Rattle.ranks.specs.Lists.{if_then_else_}
+use Rattle.records.specs.Bytes.{Tables}
+use Rattle.calllog.specs.CallLog.{recordWidth}
+use Rattle.runs.specs.Replay.{replayed}
+use Rattle.logio.specs.declared.reading.Filled.{Filled}
+use Rattle.logio.specs.declared.input.Ending.{Ending}
+use Rattle.logio.specs.declared.input.Ending.the-variants.{GoesOn, Complete, NotRead, NotWritten}
+use Rattle.logio.specs.Reading.{standardInput, Fills}
+use Rattle.logio.specs.Writing.{standardOutput, WritesAnswers}
+
+-- a block has whole records
+abbrev pub blockBytes : ℕ
+blockBytes = 481 * recordWidth
+
+-- After `n` bytes of a block: a read failed, or a write, or the log was shorter than the block, or it may go on.
+abbrev pub afterBlock : (n : ℕ) (failed done : Bool) → Ending
+afterBlock n failed done = if failed then NotRead else (if done then (if ltb n blockBytes then Complete else GoesOn) else NotWritten)
+
+abbrev pub goesOn : Ending → Bool
+goesOn GoesOn = true
+goesOn Complete = false
+goesOn NotRead = false
+goesOn NotWritten = false
+
+-- What becomes of a log once `bytes`, the answers of `n` bytes of a block, were written to standard output.
+pub record Finished (answering : Bool) (n : ℕ) (failed : Bool) (bytes : List ℕ) (ending : Ending) : Type 0 where
+  pub done : Bool
+  pub writes : WritesAnswers standardOutput answering bytes done
+  pub comes : ending ≡ afterBlock n failed done
+
+-- One turn: reads from standard input fill a block, what they put there is replayed, and its answers are written.
+pub record Turn (answering : Bool) (start : Tables) (ending : Ending) (left : Tables) : Type 0 where
+  pub lent : List ℕ
+  pub block : List ℕ
+  pub filled : Filled
+  pub size : length lent ≡ blockBytes
+  pub fills : Fills standardInput filled block 0 lent
+  pub finished : Finished answering (filled .n) (filled .failed) (replayed start (take (filled .n) block) .answers) ending
+  pub after : left ≡ replayed start (take (filled .n) block) .after
+
+-- At most `count` turns: each but the last says that the log goes on, and the last does not, or it is the last of them all.
+pub data Turns (answering : Bool) (ending : Ending) (left : Tables) : (count : ℕ) (start : Tables) → Type 0 where
+  last : {count : ℕ} {start : Tables} → Turn answering start ending left → goesOn ending ≡ false → Turns answering ending left count start
+  more : {count fewer : ℕ} {start next : Tables} {e : Ending} → count ≡ suc fewer → Turn answering start e next → goesOn e ≡ true → Turns answering ending left fewer next → Turns answering ending left count start
+  spent : {count : ℕ} → count ≡ 0 → ending ≡ GoesOn → Turns answering ending left count left
+
+-- the log that the turns replay
+unfoldable pub logOf : {answering : Bool} {ending : Ending} {left : Tables} {count : ℕ} {start : Tables} → Turns answering ending left count start → List ℕ
+logOf (last t e) = take (t .filled .n) (t .block)
+logOf (more c t e rest) = take (t .filled .n) (t .block) ++ logOf rest
+logOf (spent c e) = []
+
+-- The turns of a log, of which the program makes no more than 2^64 - 1: the tables after them are those after the log, as a whole.
+pub record ReplayedInTurns (answering : Bool) (start : Tables) (ending : Ending) (left : Tables) : Type 0 where
+  pub turns : Turns answering ending left 18446744073709551615 start
+  pub after : left ≡ replayed start (logOf turns) .after

@@ -9,7 +9,7 @@ use Rattle.logio.specs.declared.reading.Filled.{Filled}
 use Rattle.logio.specs.declared.input.Ending.{Ending}
 use Rattle.logio.specs.declared.input.Ending.the-variants.{GoesOn, Complete, NotRead, NotWritten}
 use Rattle.logio.specs.Reading.{standardInput, Fills}
-use Rattle.logio.specs.Writing.{standardOutput, WritesAnswers}
+use Rattle.logio.specs.Writing.{standardOutput, WritesAnswers, inputName, outputName, Says}
 
 -- a block has whole records
 abbrev pub blockBytes : ℕ
@@ -57,3 +57,10 @@ logOf (spent c e) = []
 pub record ReplayedInTurns (answering : Bool) (start : Tables) (ending : Ending) (left : Tables) : Type 0 where
   pub turns : Turns answering ending left 18446744073709551615 start
   pub after : left ≡ replayed start (logOf turns) .after
+
+-- What is said of a log: nothing where it was replayed to its end, and else what failed.
+pub data Tells : Ending → Type 0 where
+  nothing : Tells Complete
+  input : Says inputName → Tells NotRead
+  output : Says outputName → Tells NotWritten
+  endless : Says inputName → Tells GoesOn

@@ -3,13 +3,14 @@ ghost use mathlib.Core.Path.{_≡_};
 ghost use Prim.Native.Nat.{_≤_};
 ghost use lib.ListN.{length, take};
 ghost use Rattle.manager.specs.Outcomes.{tables};
-ghost use Rattle.logio.specs.Turns.{afterBlock, Finished, Turn, ReplayedInTurns};
+ghost use Rattle.logio.specs.Turns.{afterBlock, Finished, Turn, ReplayedInTurns, Tells};
 ghost use Rattle.logio.specs.Turns.{goesOn as Turns·goesOn};
 use crate::block::ANSWERS;
 use crate::block::BLOCK;
 use crate::block::BlockReplayed;
 use crate::block::replay_block;
 use crate::reading::standard_input;
+use crate::writing::say_failed;
 use crate::writing::standard_output;
 use crate::writing::write_answers;
 
@@ -88,12 +89,14 @@ pub fn replay_input(queues: &mut [u8], pool: &mut [u8], tasks: &mut [u8], answer
     Ending::GoesOn
 }
 
-// Says on standard error that a log was not replayed to its end.
-pub fn tell(e: Ending) {
+// Says on standard error what failed, where a log was not replayed to its end.
+pub fn tell(e: Ending)
+    ensures { λ _. ⌜ Tells e ⌝ }
+{
     match e {
         Ending::Complete => {}
-        Ending::NotWritten => os::fail(b"standard output"),
-        Ending::NotRead => os::fail(b"standard input"),
-        Ending::GoesOn => os::fail(b"standard input"),
+        Ending::NotWritten => say_failed(b"standard output"),
+        Ending::NotRead => say_failed(b"standard input"),
+        Ending::GoesOn => say_failed(b"standard input"),
     }
 }

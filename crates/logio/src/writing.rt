@@ -1,6 +1,6 @@
-// Bytes written to a descriptor.
+// Bytes written to a descriptor, and messages.
 ghost use mathlib.Core.Path.{_≡_};
-ghost use Rattle.logio.specs.Writing.{standardOutput, Writes, WritesAnswers};
+ghost use Rattle.logio.specs.Writing.{standardOutput, Writes, WritesAnswers, Says};
 use libc::STDOUT_FILENO;
 
 // A descriptor that is written.
@@ -29,4 +29,11 @@ pub fn write_answers(to: Output, answering: bool, answers: &[u8]) -> bool
         return write(to, answers);
     }
     true
+}
+
+// A line on standard error: what failed, and the system's words for the error.
+pub fn say_failed(what: &[u8])
+    ensures { λ _. ⌜ Says (now (what .entry)) ⌝ }
+{
+    os::fail(what)
 }

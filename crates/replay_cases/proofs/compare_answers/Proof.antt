@@ -1,9 +1,9 @@
--- `replay_cases::answers::compare_answers` meets its contract. Assumes nothing.
+-- `replay_cases::compare_answers` meets its contract. Assumes nothing.
 use borrow.Author.Needs.{needs}
 use mathlib.Core.Path.{_≡_}
 use lib.ListN.{length}
-use Rattle.replay_cases.proofs.answers.compare_answers.Statement.{statement}
-use Rattle.replay_cases.proofs.answers.compare_answers.Tie as tie
+use Rattle.replay_cases.proofs.compare_answers.Statement.{statement}
+use Rattle.replay_cases.proofs.compare_answers.Tie as tie
 
 abbrev Inv-loop : tie.InvT-loop
 Inv-loop log-fd answers-fd queues₀ pool₀ tasks₀ p₀ turns₀ queues pool tasks p turns =
@@ -18,7 +18,6 @@ compare-answers-spec =
     (tie.spec
     Inv-loop
     μ-loop
-    (search needs)
     (search needs)
     (search needs)
     (search needs)

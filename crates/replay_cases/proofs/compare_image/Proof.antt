@@ -1,10 +1,10 @@
--- `replay_cases::image::compare_image` meets its contract. Assumes nothing.
+-- `replay_cases::compare_image` meets its contract. Assumes nothing.
 use native.Mathlib.Omega.{arith}
 use mathlib.Core.Path.{sym}
 use lib.Seq.{length-take-le}
 use borrow.Author.Needs.{needs}
-use Rattle.replay_cases.proofs.image.compare_image.Statement.{statement}
-use Rattle.replay_cases.proofs.image.compare_image.Tie as tie
+use Rattle.replay_cases.proofs.compare_image.Statement.{statement}
+use Rattle.replay_cases.proofs.compare_image.Tie as tie
 
 slice-aggregate-agreeing-2 : tie.Need-slice-aggregate-agreeing-2
 slice-aggregate-agreeing-2 c =

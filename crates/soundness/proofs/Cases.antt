@@ -5,18 +5,19 @@ use mathlib.Core.Path.{_≡_, refl, sym, ap, ap₂, _∙_}
 use mathlib.Core.Bool.{Bool, true, false, _&&_, _||_, and-true, and-false, and-assoc}
 use mathlib.Core.Logic.{⊎-elim}
 use mathlib.Core.List.{List, [], _∷_}
-use lib.Dec.{eqb, leb}
+use lib.Dec.{eqb, leb, ltb}
 use lib.ListN.{length, drop}
 use borrow.Author.Tests.{eqb-true, eq-eqb, ne-eqb, lt-ltb, le-ltb, le-leb, lt-leb}
 use Rattle.ranks.specs.Lists.{allTrue, allZero, within}
 use Rattle.ranks.specs.Table.{slice, byte}
-use Rattle.ranks.proofs.Tests.{both}
+use Rattle.ranks.proofs.Tests.{both, and, or-left}
 use Rattle.ranks.proofs.Lists.{all-cons, all-nil, holds, held}
 use Rattle.records.specs.Split.{shareOfSlot, shareOfBuffer, shareOfTask}
 use Rattle.records.specs.Records.{Queue, Buffer, Task, State, queueAt, isLive, isOpen, sizeAllowed}
 use Rattle.records.specs.Bytes.{fromLittleEndian}
 use Rattle.records.proofs.ZeroBytes.{zero-number, zeros-one, zeros-add}
 use Rattle.specification.proofs.Rules.{Live, Free, queue-rules}
+use Rattle.soundness.specs.Parts.{belowCount, bufferTests, taskTests}
 use Rattle.specification.specs.Sound.{slotIn, soundQueue, liveQueueRules, freeQueueRules, limitIn, soundBuffer, freeBufferRules, usedBufferRules, soundTask, taskRules, readyTaskRules, waitingTaskRules}
 
 pub same-truth : (a b : Bool) → (a ≡ true → b ≡ true) → (b ≡ true → a ≡ true) → a ≡ b
@@ -80,24 +81,25 @@ third-false false y = refl
 -- ---- Buffers
 
 module _ (s : State) (b : ℕ) (m : Buffer) where
-  pub buffer-free : m .position .queue ≡ 0 → allTrue (freeBufferRules m) ≡ soundBuffer s b m
+  pub buffer-free : m .position .queue ≡ 0 → allTrue (freeBufferRules m) ≡ bufferTests s b m
   unfolding soundBuffer
-  buffer-free e = rw (eq-eqb _ _ e)
+  buffer-free e = rw (eq-eqb _ _ e) (sym (and-true _))
 
   module _ (slot : ℕ) (e : m .position .queue ≡ suc slot) where
     at-slot : slotIn (m .position) ≡ slot
     at-slot = ap pred e
 
-    pub buffer-beyond : 16 ≤ slot → false ≡ soundBuffer s b m
+    pub buffer-beyond : 16 ≤ slot → false ≡ bufferTests s b m
     unfolding soundBuffer usedBufferRules
     buffer-beyond h = rw (not-none _ _ e, at-slot, all-cons, le-ltb slot 16 h)
 
-    pub buffer-foreign : eqb (shareOfSlot slot) (shareOfBuffer b) ≡ false → false ≡ soundBuffer s b m
+    pub buffer-foreign : eqb (shareOfSlot slot) (shareOfBuffer b) ≡ false → false ≡ bufferTests s b m
     unfolding soundBuffer usedBufferRules
     buffer-foreign f = rw (not-none _ _ e, at-slot, f) (simp (all-cons, third-false))
 
     pub buffer-used : slot < 16 → eqb (shareOfSlot slot) (shareOfBuffer b) ≡ true
-        → (isLive (queueAt s slot) && sizeAllowed (queueAt s slot) (m .messageLength) && allZero (m .reserved) && allZero (drop (m .messageLength) (m .bytes))) ≡ soundBuffer s b m
+        → (isLive (queueAt s slot) && sizeAllowed (queueAt s slot) (m .messageLength) && allZero (m .reserved) && allZero (drop (m .messageLength) (m .bytes))
+        && ltb (m .position .rank) (queueAt s slot .pending)) ≡ bufferTests s b m
     unfolding soundBuffer usedBufferRules
     buffer-used h f =
         rw (not-none _ _ e, at-slot, lt-ltb slot 16 h, f) (simp (all-cons, all-nil, and-true, and-assoc))
@@ -137,18 +139,22 @@ module _ (r : List ℕ) (long : length r ≡ 136) where
       pair = sym (zeros-add 6 1 1 r) ∙ sym (ap₂ (λ (x y : Bool). x && y) (zeros-one r 6 (omega arith)) (zeros-one r 7 (omega arith)))
 
 module _ (s : State) (t : ℕ) (w : Task) where
-  pub task-ready : (w .state ≡ 1 → ⊥) → (allTrue (taskRules w) && allTrue (readyTaskRules w)) ≡ soundTask s t w
+  task-ready : (w .state ≡ 1 → ⊥) → (allTrue (taskRules w) && allTrue (readyTaskRules w)) ≡ soundTask s t w
   unfolding soundTask
   task-ready ne = rw (ne-eqb (w .state) 1 ne)
 
   -- all that a ready task has to be
-  pub task-is-ready : (allTrue (taskRules w) && allTrue (readyTaskRules w)) ≡ true → true ≡ soundTask s t w
+  pub task-is-ready : (allTrue (taskRules w) && allTrue (readyTaskRules w)) ≡ true → true ≡ taskTests s t w
   unfolding readyTaskRules
   task-is-ready e =
-      let zero : w .state ≡ 0 = eqb-true _ _ (holds _ (both (allTrue (taskRules w)) (allTrue (readyTaskRules w)) e .1) .0) in
-      sym e ∙ task-ready (λ one. omega arith)
+      let rules = holds _ (both (allTrue (taskRules w)) (allTrue (readyTaskRules w)) e .1) in
+      let zero : w .state ≡ 0 = eqb-true _ _ (rules .0) in
+      sym (and (sym (task-ready (λ one. omega arith)) ∙ e) (or-left _ (rules .1 .0)))
 
-  pub task-nowhere : w .state ≡ 1 → w .position .queue ≡ 0 → false ≡ soundTask s t w
+  pub task-not-ready : (w .state ≡ 1 → ⊥) → false ≡ (allTrue (taskRules w) && allTrue (readyTaskRules w)) → false ≡ taskTests s t w
+  task-not-ready ne e = ap (λ (x : Bool). x && belowCount false (s .queues) (w .position)) (e ∙ task-ready ne)
+
+  pub task-nowhere : w .state ≡ 1 → w .position .queue ≡ 0 → false ≡ taskTests s t w
   unfolding soundTask waitingTaskRules
   task-nowhere o e = rw (eq-eqb (w .state) 1 o, all-cons, lt-leb 1 (w .position .queue) (omega arith), and-false)
 
@@ -159,12 +165,12 @@ module _ (s : State) (t : ℕ) (w : Task) where
     named : leb 1 (w .position .queue) ≡ true
     named = le-leb 1 (w .position .queue) (omega arith)
 
-    pub task-beyond : 16 ≤ slot → false ≡ soundTask s t w
+    pub task-beyond : 16 ≤ slot → false ≡ taskTests s t w
     unfolding soundTask waitingTaskRules
     task-beyond h = rw (eq-eqb (w .state) 1 o, named-slot, named, le-ltb slot 16 h) (simp (all-cons, and-false))
 
     pub task-waiting : slot < 16
-        → (allTrue (taskRules w) && (isLive (queueAt s slot) && (eqb (shareOfSlot slot) (shareOfTask t) || isOpen (queueAt s slot)) && eqb (w .status) 14 && eqb (w .messageLength) 0))
-        ≡ soundTask s t w
+        → (allTrue (taskRules w) && (isLive (queueAt s slot) && (eqb (shareOfSlot slot) (shareOfTask t) || isOpen (queueAt s slot)) && eqb (w .status) 14 && eqb (w .messageLength) 0)
+        && ltb (w .position .rank) (queueAt s slot .waiters)) ≡ taskTests s t w
     unfolding soundTask waitingTaskRules
-    task-waiting h = rw (eq-eqb (w .state) 1 o, named-slot, named, lt-ltb slot 16 h) (simp (all-cons, all-nil, and-true, and-assoc))
+    task-waiting h = rw (eq-eqb (w .state) 1 o, named-slot, named, lt-ltb slot 16 h, not-none _ _ e) (simp (all-cons, all-nil, and-true, and-assoc))

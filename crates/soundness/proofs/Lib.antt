@@ -1,6 +1,6 @@
 pub mod Cases
-pub mod Marks
 pub mod Orders
 pub mod Passes
+pub mod Ranks
 pub mod Searched
 pub mod Whole

@@ -2,25 +2,38 @@
 use Prim.Native.Nat.{ℕ, zero, suc, _+_, _-_, _%_, _≤_, _<_}
 use native.Mathlib.Omega.{arith}
 use mathlib.Core.Path.{_≡_, refl, sym, ap, subst, _∙_}
-use mathlib.Core.Bool.{Bool, true, false, true≢false}
+use mathlib.Core.Bool.{Bool, true, false}
 use mathlib.Core.Logic.{⊎-elim}
-use mathlib.Core.List.{List}
+use mathlib.Core.List.{List, [], _∷_}
 use lib.ListN.{length, getD, set}
 use lib.Seq.{getD-set-same, getD-set-other}
 use borrow.Author.Tests.{eqb-true, eq-eqb, ltb-true, lt-ltb, leb-true, le-leb}
-use Rattle.ranks.specs.Lists.{_implies_}
-use Rattle.ranks.specs.Position.{Position}
+use Rattle.ranks.specs.Lists.{_implies_, mapWithIndex, countTrue}
+use Rattle.ranks.specs.Position.{Position, noQueue, inQueue}
 use Rattle.ranks.specs.Steps.{ranked}
 use Rattle.ranks.proofs.Tests.{either, both, and, lt-or-ge}
-use Rattle.ranks.proofs.Lists.{every-at, every-from}
+use Rattle.ranks.proofs.Lists.{length-mapped, every-at, every-from}
 use Rattle.ranks.proofs.Ranks.{Ranked}
-use Rattle.ranks.proofs.Ranked.{implied, implying, from-positions}
-use Rattle.records.specs.Records.{Queue, Task, State, freshTask, hasPriority, isLive}
+use Rattle.ranks.proofs.Ranked.{implied, implying, from-ranked, from-positions}
+use Rattle.ranks.proofs.ByRank.{counted}
+use Rattle.records.specs.Records.{Queue, Task, State, freshTask, hasPriority}
 use Rattle.records.specs.Bytes.{decodeTask, decodeTasks}
 use Rattle.records.proofs.Writing.{length-decoded}
 use Rattle.specification.specs.Sound.{byPriority}
 use Rattle.soundness.specs.Parts.{onlyTasks, taskPositions, queueRanked, queueInOrder, OneAtRank, PrioritiesAtRanks}
 use Rattle.soundness.proofs.Passes.{task-positions}
+
+-- a queue has at most as many ranks as there are records
+pub ranks-fit : (slot k : ℕ) (ps : List Position) → ranked slot k ps ≡ true → k ≤ length ps
+unfolding countTrue
+ranks-fit slot k ps e =
+    let as-many = counted {position = λ (p : Position). p} {a = noQueue} {xs = ps} (record { long = refl; ranks = from-ranked slot k ps e }) in
+    omega (arith, as-many, count-bound (mapWithIndex (λ j p. inQueue slot p) ps), length-mapped (λ j p. inQueue slot p) ps)
+  where
+    count-bound : (bs : List Bool) → countTrue bs ≤ length bs
+    count-bound [] = omega arith
+    count-bound (true ∷ bs) = let ih : countTrue bs ≤ length bs = count-bound bs in omega arith
+    count-bound (false ∷ bs) = let ih : countTrue bs ≤ length bs = count-bound bs in omega arith
 
 -- ---- The tasks of a queue
 

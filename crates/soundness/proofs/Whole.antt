@@ -1,24 +1,16 @@
 -- The parts of the search say together what `sound` says. Assumes nothing.
-use Prim.Native.Nat.{ℕ, suc, _+_, _≤_, _<_}
-use native.Mathlib.Omega.{arith}
+use Prim.Native.Nat.{ℕ, _<_}
 use mathlib.Core.Path.{_≡_, refl, sym, ap, _∙_}
 use mathlib.Core.Bool.{Bool, true, false, _&&_, not, and-true, and-assoc, and-comm}
-use mathlib.Core.Logic.{⊎-elim}
 use mathlib.Core.List.{List, [], _∷_}
 use lib.ListN.{length, getD}
-use borrow.Author.Tests.{eqb-true, eq-eqb, leb-true, ltb-true, not-true, not-false}
-use Rattle.ranks.specs.Lists.{_implies_, allTrue, every, mapWithIndex}
-use Rattle.ranks.specs.Position.{Position, noQueue, inQueue}
-use Rattle.ranks.specs.Table.{records, Shape}
+use borrow.Author.Tests.{not-true, not-false}
+use Rattle.ranks.specs.Lists.{_implies_, allTrue, every}
 use Rattle.ranks.proofs.Tests.{both, and}
-use Rattle.ranks.proofs.Lists.{all-cons, all-nil, at-mapped, every-at, every-from, mapped-cong}
-use Rattle.records.specs.Split.{shareOfSlot, shareOfBuffer}
-use Rattle.records.specs.Records.{Queue, Buffer, State, freeQueue, freeBuffer, isLive}
-use Rattle.records.specs.Bytes.{decodeBuffer, decodeQueues, decodePool, decodeTasks, decode}
-use Rattle.records.proofs.Tabled.{slot-share-below, buffers-end, share-buffers}
+use Rattle.ranks.proofs.Lists.{all-cons, all-nil, every-at, every-from, mapped-cong}
+use Rattle.records.specs.Records.{Queue, State, freeQueue, isLive}
+use Rattle.records.specs.Bytes.{decodeQueues, decodePool, decodeTasks, decode}
 use Rattle.specification.specs.Sound.{soundQueue, limits, soundLimits, soundBuffer, soundRanks, byPriority, soundTask, sound}
-use Rattle.specification.proofs.Rules.{Unused, Used, buffer-rules}
-use Rattle.records.proofs.Writing.{length-decoded}
 use Rattle.soundness.specs.Parts.{onlyQueues, onlyTasks, poolPositions, taskPositions, queueRanked, queueInOrder}
 use Rattle.soundness.proofs.Cases.{same-truth}
 use Rattle.soundness.proofs.Passes.{pool-positions, task-positions}

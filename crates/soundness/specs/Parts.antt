@@ -1,12 +1,13 @@
 -- What the parts of the search look at, and what they pass on.
-use Rattle.ranks.specs.Prelude.{ℕ, suc, pred, _+_, _*_, _≤_, _<_, _≡_, Bool, true, false, not, List, [], getD, set, eqb, leb, _&&_, _||_, _⊎_}
-use Rattle.ranks.specs.Lists.{if_then_else_, _implies_, mapWithIndex, sumOf}
-use Rattle.ranks.specs.Position.{Position, noQueue}
-use Rattle.ranks.specs.Table.{slice, records, positionIn}
+use Rattle.ranks.specs.Prelude.{ℕ, suc, pred, _/_, _%_, _≤_, _<_, _≡_, Bool, true, false, List, [], map, length, getD, eqb, ltb, _&&_, _||_}
+use Rattle.ranks.specs.Lists.{if_then_else_, _implies_, mapWithIndex}
+use Rattle.ranks.specs.Position.{Position, noQueue, inQueue}
+use Rattle.ranks.specs.Table.{records, positionIn}
 use Rattle.ranks.specs.Steps.{ranked}
-use Rattle.records.specs.Records.{State, Queue, Task, freeQueue, freshTask, isLive, hasPriority}
+use Rattle.records.specs.Split.{shareOfSlot, firstBuffer, shareLimit}
+use Rattle.records.specs.Records.{State, Queue, Buffer, Task, freeQueue, freshTask, isLive, hasPriority}
 use Rattle.records.specs.Bytes.{decodeQueues, decodeTasks}
-use Rattle.specification.specs.Sound.{byPriority}
+use Rattle.specification.specs.Sound.{byPriority, soundBuffer, soundTask}
 
 -- The state that a part looks at: a rule of `Sound.antt` that asks nothing else of the state says the same of the whole.
 abbrev pub onlyQueues : List ℕ → State
@@ -35,39 +36,36 @@ held messages q = if messages then q .pending else q .waiters
 abbrev pub queueRanked : (messages : Bool) → List Position → (slot : ℕ) → Queue → Bool
 queueRanked messages ps slot q = isLive q implies ranked slot (held messages q) ps
 
--- Each record that is in a queue marks its rank: 32 entries for each slot, 1 where a record stands.
-abbrev pub placeOf : Position → ℕ
-placeOf p = pred (p .queue) * 32 + p .rank
+-- the rank is below the count of the queue that the position names; a record in no queue has none
+abbrev pub belowCount : (messages : Bool) → List Queue → Position → Bool
+belowCount messages qs p = eqb (p .queue) 0 || ltb (p .rank) (held messages (getD qs (pred (p .queue)) (freeQueue 0)))
 
--- the rank is below the count of the queue, and no record before marked it; a record in no queue has nothing to mark
-unfoldable pub canMark : (messages : Bool) → List Queue → (seen : List ℕ) → Position → Bool
-canMark messages qs seen p =
-    eqb (p .queue) 0
-    || (not (leb 32 (p .rank) || leb (held messages (getD qs (pred (p .queue)) (freeQueue 0))) (p .rank)) && eqb (getD seen (placeOf p) 0) 0)
+-- what is tested of one record: its own rules, and that its rank is below the count
+abbrev pub bufferTests : State → (b : ℕ) → Buffer → Bool
+bufferTests s b m = soundBuffer s b m && belowCount true (s .queues) (m .position)
 
-unfoldable pub marked : (seen : List ℕ) → Position → List ℕ
-marked seen p = if eqb (p .queue) 0 then seen else set seen (placeOf p) 1
+abbrev pub taskTests : State → (t : ℕ) → Task → Bool
+taskTests s t w = soundTask s t w && belowCount false (s .queues) (w .position)
 
--- The first k records marked their ranks, no two the same one.
-pub record Marked (messages : Bool) (qs : List Queue) (ps : List Position) (k : ℕ) (seen : List ℕ) : Type 0 where
-  pub below : (j slot : ℕ) → j < k → slot < 16 → getD ps j noQueue .queue ≡ suc slot
-      → (getD ps j noQueue .rank < 32) × (getD ps j noQueue .rank < held messages (getD qs slot (freeQueue 0)))
-  pub stands : (j slot : ℕ) → j < k → slot < 16 → getD ps j noQueue .queue ≡ suc slot → getD seen (slot * 32 + getD ps j noQueue .rank) 0 ≡ 1
-  pub entry : (slot r : ℕ) → slot < 16 → r < 32
-      → (getD seen (slot * 32 + r) 0 ≡ 0)
-      ⊎ ((getD seen (slot * 32 + r) 0 ≡ 1) × ((j : ℕ) × (j < k) × (getD ps j noQueue .queue ≡ suc slot) × (getD ps j noQueue .rank ≡ r)))
-  pub one : (i j slot : ℕ) → i < k → j < k → slot < 16 → getD ps i noQueue .queue ≡ suc slot → getD ps j noQueue .queue ≡ suc slot
-      → getD ps i noQueue .rank ≡ getD ps j noQueue .rank → i ≡ j
+-- the first record that can be in the queue of the slot, and how many can be from there on: its share's buffers, or every task
+abbrev pub partStart : (messages : Bool) (slot : ℕ) → ℕ
+partStart messages slot = if messages then firstBuffer (shareOfSlot slot) else 0
 
--- as many ranks of the live queue are marked as it holds, if it holds any
-abbrev pub ranksTaken : (messages : Bool) (seen : List ℕ) (slot : ℕ) → Queue → Bool
-ranksTaken messages seen slot q =
-    (isLive q && not (eqb (held messages q) 0)) implies eqb (sumOf (slice (slot * 32) 32 seen)) (held messages q)
+abbrev pub partSize : (messages : Bool) (count slot : ℕ) → ℕ
+partSize messages count slot = if messages then shareLimit (shareOfSlot slot) else count
 
--- What a pass over a table that answers `r` says: every record is as its rules say and marked its rank, or one is not, or the ranks are broken.
-pub record Tested (rules ranks : Bool) (marks : Type 0) (r : Bool) : Type 0 where
-  pub passed : r ≡ true → (rules ≡ true) × marks
-  pub failed : r ≡ false → rules && ranks ≡ false
+-- the records in the queue of the slot are among those before `to`, from `from` on
+pub record Among (slot from to : ℕ) (ps : List Position) : Type 0 where
+  pub inside : to ≤ length ps
+  pub start : (j : ℕ) → j < length ps → inQueue slot (getD ps j noQueue) ≡ true → from ≤ j
+  pub stop : (j : ℕ) → j < length ps → inQueue slot (getD ps j noQueue) ≡ true → j < to
+
+-- the position that is the number queue + 256 x rank
+abbrev pub positionOf : ℕ → Position
+positionOf n = record { queue = n % 256; rank = n / 256 }
+
+abbrev pub positionsOf : List ℕ → List Position
+positionsOf numbers = map positionOf numbers
 
 -- ---- Priorities
 

@@ -1,68 +1,133 @@
-// The ranks of messages and of waiters. As the records of a table are tested one by one, each that is in a queue marks its rank.
+// The ranks of messages and of waiters: a table of count records of stride bytes, each with its queue at place and its rank after it.
 ghost use mathlib.Core.Path.{_≡_};
 ghost use mathlib.Core.Bool.{true};
 ghost use Prim.Native.Nat.{ℕ, _+_, _*_, _≤_, _<_};
-ghost use lib.ListN.{length, getD};
-ghost use Rattle.ranks.specs.Lists.{every};
+ghost use lib.ListN.{length, take};
+ghost use Rattle.ranks.specs.Lists.{if_then_else_, every};
+ghost use Rattle.ranks.specs.Table.{records, positionIn, Shape};
 ghost use Rattle.records.specs.Bytes.{decodeQueues};
-ghost use Rattle.soundness.specs.Parts.{held, canMark, marked, ranksTaken};
-use ranks::Position;
+ghost use Rattle.soundness.specs.Parts.{positions, positionOf, positionsOf, held, belowCount, partStart, partSize, Among, queueRanked};
 use records::bytes::wide;
 use records::queue::QueueRecord;
 use records::queue::read_queue;
+use records::shares::first_buffer;
+use records::shares::share_limit;
+use records::shares::share_of_slot;
 
 // How many messages the queue holds, or how many tasks wait in it.
-fn held(q: QueueRecord, messages: bool) -> usize
+fn held(q: QueueRecord, messages: bool) -> u16
     ensures { λ r. ⌜ (r ≡ held messages q) × (r < 256) ⌝ }
 {
     if messages {
-        return wide(q.pending);
+        return q.pending as u16;
     }
-    wide(q.waiters)
+    q.waiters as u16
 }
 
-// Marks the rank of a record that is in a queue. Whether the rank is below the count of the queue and was not marked before.
-pub fn mark(queues: &[u8], seen: &mut [u8], p: Position, messages: bool) -> bool
-    requires { ⌜ (length (now queues) ≡ 256) × ((length (now seen) ≡ 512) × (p .queue ≤ 16)) ⌝ }
-    ensures { λ r. ⌜ (r ≡ canMark messages (decodeQueues (now (queues .entry))) (now (seen .entry)) p) × (r ≡ true → now (seen .exit) ≡ marked (now (seen .entry)) p) ⌝ }
+// The first record that can be in the queue of the slot: the first buffer of its share, or the first task.
+fn part_start(slot: usize, messages: bool) -> usize
+    requires { ⌜ slot < 16 ⌝ }
+    ensures { λ r. ⌜ r ≡ partStart messages slot ⌝ }
 {
-    let queue = wide(p.queue);
-    if queue == 0 {
-        return true;
+    if messages {
+        return first_buffer(share_of_slot(slot));
     }
-    let slot = queue - 1;
-    let n = held(read_queue(queues, slot), messages);
-    let rank = wide(p.rank);
-    if (32 <= rank) | (n <= rank) {
-        return false;
-    }
-    let at = slot * 32 + rank;
-    if seen[at] != 0 {
-        return false;
-    }
-    seen[at] = 1;
-    true
+    0
 }
 
-// For each live queue that holds any, as many ranks are marked as it holds.
-pub fn every_ranked(queues: &[u8], seen: &[u8], messages: bool) -> bool
-    requires { ⌜ (length (now queues) ≡ 256) × ((length (now seen) ≡ 512) × ((i : ℕ) → i < 512 → getD (now seen) i 0 ≤ 1)) ⌝ }
-    ensures { λ r. ⌜ r ≡ every (ranksTaken messages (now (seen .entry))) (decodeQueues (now (queues .entry))) ⌝ }
+// How many records from there on can be in the queue: the buffers of its share, or all of the count.
+fn part_size(slot: usize, messages: bool, count: usize) -> usize
+    requires { ⌜ slot < 16 ⌝ }
+    ensures { λ r. ⌜ r ≡ partSize messages count slot ⌝ }
+{
+    if messages {
+        return share_limit(share_of_slot(slot));
+    }
+    count
+}
+
+// The position in the two bytes at this place, as one number: its queue + 256 x its rank.
+fn read_number(t: &[u8], at: usize) -> u16
+    requires { ⌜ at + 1 < length (now t) ⌝ }
+    ensures { λ r. ⌜ positionOf r ≡ positionIn at (now (t .entry)) ⌝ }
+{
+    let queue = wide(t[at]);
+    let rank = wide(t[at + 1]);
+    (queue + 256 * rank) as u16
+}
+
+// The positions of all records as numbers, side by side, so that a loop over records compares several at once.
+fn read_numbers(t: &[u8], stride: usize, place: usize, count: usize) -> [u16; 64]
+    requires { ⌜ Shape stride place count (length (now t)) × (count ≤ 64) ⌝ }
+    ensures { λ r. ⌜ positionsOf (take count r) ≡ positions place (records count stride (now (t .entry))) ⌝ }
+{
+    let mut numbers = [0u16; 64];
+    let mut k = 0;
+    while k < count {
+        numbers[k] = read_number(t, k * stride + place);
+        k += 1;
+    }
+    numbers
+}
+
+// The number of the position at the rank of the queue in the slot.
+fn number_at(slot: usize, rank: u16) -> u16
+    requires { ⌜ (slot < 16) × (rank < 256) ⌝ }
+    ensures { λ r. ⌜ r ≡ slot + 1 + 256 * rank ⌝ }
+{
+    (slot + 1) as u16 + 256 * rank
+}
+
+fn one(b: bool) -> u16
+    ensures { λ r. ⌜ (r ≡ (if b then 1 else 0)) × (r ≤ 1) ⌝ }
+{
+    b as u16
+}
+
+// For each live queue, its messages or waiters carry the ranks below their count, each exactly once: queue by queue, rank by rank, over the
+// records that can be in the queue. No record has a rank at its queue's count or above, so that a queue that holds nothing has no record.
+fn each_rank_once(queues: &[u8], numbers: &[u16], messages: bool) -> bool
+    requires { ⌜ (length (now queues) ≡ 256) × ((length (now numbers) ≤ 64) × ((every (λ j p. belowCount messages (decodeQueues (now queues)) p) (positionsOf (now numbers)) ≡ true)
+        × ((slot : ℕ) → slot < 16 → Among slot (partStart messages slot) (partStart messages slot + partSize messages (length (now numbers)) slot) (positionsOf (now numbers))))) ⌝ }
+    ensures { λ r. ⌜ r ≡ every (queueRanked messages (positionsOf (now (numbers .entry)))) (decodeQueues (now (queues .entry))) ⌝ }
 {
     let mut good = true;
     'search: for slot in 0..16 {
         let q = read_queue(queues, slot);
         let n = held(q, messages);
         if (q.live == 1) & (n != 0) {
-            let mut taken: u8 = 0;
-            'ranks: for rank in 0..32 {
-                taken = taken + seen[slot * 32 + rank];
-            }
-            if wide(taken) != n {
-                good = false;
-                break 'search;
+            let from = part_start(slot, messages);
+            let to = from + part_size(slot, messages, numbers.len());
+            'ranks: for rank in 0..n {
+                let wanted = number_at(slot, rank);
+                let mut found: u16 = 0;
+                'records: for k in from..to {
+                    found = found + one(numbers[k] == wanted);
+                }
+                if found != 1 {
+                    good = false;
+                    break 'search;
+                }
             }
         }
     }
     good
+}
+
+// For each live queue, its messages or waiters carry the ranks below their count, each exactly once.
+pub fn every_ranked(
+    queues: &[u8],
+    t: &[u8],
+    stride: usize,
+    place: usize,
+    count: usize,
+    messages: bool,
+) -> bool
+    requires { ⌜ (length (now queues) ≡ 256) × (Shape stride place count (length (now t)) × ((count ≤ 64)
+        × ((every (λ j p. belowCount messages (decodeQueues (now queues)) p) (positions place (records count stride (now t))) ≡ true)
+        × ((slot : ℕ) → slot < 16 → Among slot (partStart messages slot) (partStart messages slot + partSize messages count slot) (positions place (records count stride (now t))))))) ⌝ }
+    ensures { λ r. ⌜ r ≡ every (queueRanked messages (positions place (records count stride (now (t .entry))))) (decodeQueues (now (queues .entry))) ⌝ }
+{
+    let numbers = read_numbers(t, stride, place, count);
+    each_rank_once(queues, &numbers[0..count], messages)
 }

@@ -2,17 +2,15 @@
 ghost use mathlib.Core.Path.{_≡_};
 ghost use mathlib.Core.Bool.{true, false, _&&_, _||_};
 ghost use Prim.Native.Nat.{_<_};
-ghost use lib.Dec.{eqb};
-ghost use lib.ListN.{length, replicate};
+ghost use lib.Dec.{eqb, ltb};
+ghost use lib.ListN.{length};
 ghost use Rattle.ranks.specs.Lists.{allTrue, every};
 ghost use Rattle.ranks.specs.Table.{byte};
 ghost use Rattle.records.specs.Records.{isLive, isOpen};
 ghost use Rattle.records.specs.Bytes.{decodeTask, decodeQueues, decodeTasks};
 ghost use Rattle.specification.specs.Sound.{taskRules, readyTaskRules, soundTask};
-ghost use Rattle.soundness.specs.Parts.{onlyQueues, taskPositions, queueRanked, Marked, Tested};
+ghost use Rattle.soundness.specs.Parts.{onlyQueues, taskPositions, taskTests, queueRanked};
 use crate::ranked::every_ranked;
-use crate::ranked::mark;
-use ranks::read_position;
 use records::bytes::wide;
 use records::queue::QueueRecord;
 use records::queue::read_queue;
@@ -38,19 +36,20 @@ fn ready_task(r: &[u8]) -> bool
         & (r[5] <= 120)
 }
 
-// The task may wait in the queue, which is of its own share or not.
+// The task may wait in the queue, which is of its own share or not, and its rank is below the queue's count.
 fn waiting_task(q: QueueRecord, own: bool, r: &[u8]) -> bool
     requires { ⌜ length (now r) ≡ 136 ⌝ }
-    ensures { λ x. ⌜ x ≡ (allTrue (taskRules (decodeTask (now (r .entry)))) && (isLive q && (own || isOpen q) && eqb (byte 4 (now (r .entry))) 14 && eqb (byte 5 (now (r .entry))) 0)) ⌝ }
+    ensures { λ x. ⌜ x ≡ (allTrue (taskRules (decodeTask (now (r .entry)))) && (isLive q && (own || isOpen q) && eqb (byte 4 (now (r .entry))) 14 && eqb (byte 5 (now (r .entry))) 0) && ltb (byte 2 (now (r .entry))) (q .waiters)) ⌝ }
 {
     ((1 <= r[3]) & two_zeros(r, 6) & four_zeros(r, 12))
         & ((q.live == 1) & (own | (q.attributes / 2 % 2 == 1)) & (r[4] == 14) & (r[5] == 0))
+        & (r[2] < q.waiters)
 }
 
-// The record of task t is as its rules say.
+// The record of task t is as its rules say, and its rank is below the count of its queue.
 fn task_sound(queues: &[u8], r: &[u8], t: usize) -> bool
     requires { ⌜ (length (now queues) ≡ 256) × ((length (now r) ≡ 136) × (t < 32)) ⌝ }
-    ensures { λ x. ⌜ x ≡ soundTask (onlyQueues (now (queues .entry))) t (decodeTask (now (r .entry))) ⌝ }
+    ensures { λ x. ⌜ x ≡ taskTests (onlyQueues (now (queues .entry))) t (decodeTask (now (r .entry))) ⌝ }
 {
     if ready_task(r) {
         return true;
@@ -73,21 +72,15 @@ fn task_sound(queues: &[u8], r: &[u8], t: usize) -> bool
     )
 }
 
-// Each task is as its rules say, and those that wait have ranks of their own below the count of their queue, which they mark.
-fn mark_tasks(queues: &[u8], tasks: &[u8], seen: &mut [u8]) -> bool
-    requires { ⌜ (length (now queues) ≡ 256) × ((length (now tasks) ≡ 4352) × (now seen ≡ replicate 512 0)) ⌝ }
-    ensures { λ x. ⌜ Tested (every (soundTask (onlyQueues (now (queues .entry)))) (decodeTasks (now (tasks .entry))))
-        (every (queueRanked false (taskPositions (now (tasks .entry)))) (decodeQueues (now (queues .entry))))
-        (Marked false (decodeQueues (now (queues .entry))) (taskPositions (now (tasks .entry))) 32 (now (seen .exit))) x ⌝ }
+// Each task is as its rules say, and has a rank below the count of its queue.
+fn each_task_sound(queues: &[u8], tasks: &[u8]) -> bool
+    requires { ⌜ (length (now queues) ≡ 256) × (length (now tasks) ≡ 4352) ⌝ }
+    ensures { λ x. ⌜ x ≡ every (taskTests (onlyQueues (now (queues .entry)))) (decodeTasks (now (tasks .entry))) ⌝ }
 {
     let mut good = true;
     'search: for t in 0..32 {
         let from = t * 136;
         if !task_sound(queues, &tasks[from..from + 136], t) {
-            good = false;
-            break 'search;
-        }
-        if !mark(queues, seen, read_position(tasks, from + 1), false) {
             good = false;
             break 'search;
         }
@@ -101,9 +94,8 @@ pub fn tasks_sound(queues: &[u8], tasks: &[u8]) -> bool
     ensures { λ x. ⌜ x ≡ (every (soundTask (onlyQueues (now (queues .entry)))) (decodeTasks (now (tasks .entry)))
         && every (queueRanked false (taskPositions (now (tasks .entry)))) (decodeQueues (now (queues .entry)))) ⌝ }
 {
-    let mut seen = [0u8; 512];
-    if !mark_tasks(queues, tasks, &mut seen) {
+    if !each_task_sound(queues, tasks) {
         return false;
     }
-    every_ranked(queues, &seen, false)
+    every_ranked(queues, tasks, 136, 1, 32, false)
 }

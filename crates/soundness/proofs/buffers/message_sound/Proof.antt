@@ -10,13 +10,20 @@ use borrow.Author.Needs.{needs}
 use Rattle.soundness.proofs.buffers.message_sound.Statement.{statement}
 use Rattle.soundness.proofs.buffers.message_sound.Tie as tie
 
+abbrev measured : tie.After-four-zeros → tie.After-wide
+measured c = c .before .before .before .before .before
+
+abbrev entry : tie.After-wide → tie.Start
+entry c = c .before .before .before
+
 returns : tie.Need-returns
 unfolding sizeAllowed within
 returns c =
-    let s = c .before .before .before .before .before .before .before .before .before .before in
+    let w = measured (c .before .before .before .before) in
+    let s = entry w in
     let r = s .args .r .now in
-    let e = c .zeros-from .ensures ∙ ap (λ (m : ℕ). allZero (drop (8 + m) r)) (c .before .before .before .before .before .before .before .wide .ensures .0) ∙ after-message r (s .pre) (byte 2 r) in
-    rw (c .before .before .four-zeros .ensures, reserved-part r (s .pre), e)
+    let e = c .before .before .zeros-from .ensures ∙ ap (λ (m : ℕ). allZero (drop (8 + m) r)) (w .wide .ensures .0) ∙ after-message r (s .pre) (byte 2 r) in
+    rw (c .before .before .before .before .four-zeros .ensures, reserved-part r (s .pre), e)
 
 pub message-sound-spec : {M : Type 1} → statement M
-message-sound-spec = tie.close (tie.spec (search needs) (search needs) (search needs) (search needs) (search needs) (search needs) (search needs) (search needs) returns)
+message-sound-spec = tie.close (tie.spec (search needs) (search needs) (search needs) (search needs) (search needs) (search needs) (search needs) (search needs) (search needs) returns)

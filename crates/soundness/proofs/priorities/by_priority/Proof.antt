@@ -6,9 +6,9 @@ use mathlib.Core.Bool.{true}
 use mathlib.Core.Logic.{⊎-elim}
 use lib.ListN.{getD}
 use Rattle.ranks.proofs.Tests.{lt-or-ge}
-use Rattle.soundness.proofs.Marks.{ranks-fit}
-use Rattle.soundness.proofs.Passes.{length-positions, tasks-shape}
-use Rattle.soundness.proofs.Orders.{one-at-rank, rising, falling}
+use Rattle.soundness.proofs.Ranks.{length-positions}
+use Rattle.soundness.proofs.Passes.{tasks-shape}
+use Rattle.soundness.proofs.Orders.{ranks-fit, one-at-rank, rising, falling}
 use borrow.Author.Needs.{needs}
 use Rattle.soundness.proofs.priorities.by_priority.Statement.{statement}
 use Rattle.soundness.proofs.priorities.by_priority.Tie as tie

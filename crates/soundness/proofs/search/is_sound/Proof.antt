@@ -13,6 +13,9 @@ use borrow.Author.Needs.{needs}
 use Rattle.soundness.proofs.search.is_sound.Statement.{statement}
 use Rattle.soundness.proofs.search.is_sound.Tie as tie
 
+abbrev entry : tie.Else2 → tie.Start
+entry c = c .before .before .before .before .before .before .before
+
 -- what is left of the search after k parts says whether the tables are sound
 abbrev Rest : ℕ → tie.Start → Type 0
 Rest k s =
@@ -25,13 +28,13 @@ whole s = parts (s .args .queues .now) (s .args .pool .now) (s .args .tasks .now
 left1 : (c : tie.Else1) → Rest 1 (c .before .before .before .before .before)
 left1 c = go-on _ (c .before .queues-sound .ensures) (c .if1 .left) (whole (c .before .before .before .before .before))
 
-left2 : (c : tie.Else2) → Rest 2 (c .before .before .before .before .before .before .before)
+left2 : (c : tie.Else2) → Rest 2 (entry c)
 left2 c = go-on _ (c .before .limits-sound .ensures) (c .if2 .left) (left1 (c .before .before))
 
-left3 : (c : tie.Else3) → Rest 3 (c .before .before .before .before .before .before .before .before .before)
+left3 : (c : tie.Else3) → Rest 3 (entry (c .before .before))
 left3 c = go-on _ (c .before .pool-sound .ensures) (c .if3 .left) (left2 (c .before .before))
 
-left4 : (c : tie.Else4) → Rest 4 (c .before .before .before .before .before .before .before .before .before .before .before)
+left4 : (c : tie.Else4) → Rest 4 (entry (c .before .before .before .before))
 left4 c = go-on _ (c .before .tasks-sound .ensures) (c .if4 .left) (left3 (c .before .before))
 
 returns : tie.Need-returns
@@ -43,11 +46,6 @@ limits-sound-requires c κs = (c .before .before .before .before .before .pre .0
 returns-2 : tie.Need-returns-2
 returns-2 c = ends _ (c .before .limits-sound .ensures) (c .if2 .taken) (left1 (c .before .before))
 
-pool-sound-requires : tie.Need-pool-sound-requires
-pool-sound-requires c κs =
-    let s = c .before .before .before .before .before .before .before in
-    (s .pre .0, (s .pre .1 .0, sym (c .before .before .before .queues-sound .ensures) ∙ not-false _ (c .before .before .if1 .left)))
-
 returns-3 : tie.Need-returns-3
 returns-3 c = ends _ (c .before .pool-sound .ensures) (c .if3 .taken) (left2 (c .before .before))
 
@@ -56,11 +54,11 @@ returns-4 c = ends _ (c .before .tasks-sound .ensures) (c .if4 .taken) (left3 (c
 
 priorities-sound-requires : tie.Need-priorities-sound-requires
 priorities-sound-requires c κs =
-    let s = c .before .before .before .before .before .before .before .before .before .before .before in
+    let s = entry (c .before .before .before .before) in
     (s .pre .0, (s .pre .1 .1, both (every (soundTask (onlyQueues (s .args .queues .now))) (decodeTasks (s .args .tasks .now))) _ (sym (c .before .tasks-sound .ensures) ∙ not-false _ (c .if4 .left)) .1))
 
 returns-5 : tie.Need-returns-5
 returns-5 c = last (c .priorities-sound .ensures) (left4 (c .before))
 
 pub is-sound-spec : {M : Type 1} → statement M
-is-sound-spec = tie.close (tie.spec (search needs) returns limits-sound-requires returns-2 pool-sound-requires returns-3 (search needs) returns-4 priorities-sound-requires returns-5)
+is-sound-spec = tie.close (tie.spec (search needs) returns limits-sound-requires returns-2 (search needs) returns-3 (search needs) returns-4 priorities-sound-requires returns-5)

@@ -1,5 +1,4 @@
 -- `soundness::tasks::ready_task` meets its contract. Assumes nothing.
-use mathlib.Core.Path.{_≡_, _∙_}
 use Rattle.records.specs.Bytes.{decodeTask}
 use Rattle.specification.specs.Sound.{taskRules, readyTaskRules}
 use Rattle.soundness.proofs.Cases.{ready-tests}
@@ -7,10 +6,13 @@ use borrow.Author.Needs.{needs}
 use Rattle.soundness.proofs.tasks.ready_task.Statement.{statement}
 use Rattle.soundness.proofs.tasks.ready_task.Tie as tie
 
+abbrev entry : tie.After-eight-zeros → tie.Start
+entry c = c .before .before .before .before .before .before .before
+
 returns : tie.Need-returns
 unfolding taskRules readyTaskRules decodeTask
 returns c =
-    let s = c .before .before .before .before .before .before .before .before .before .before .before .before in
+    let s = entry (c .before .before .before .before .before) in
     rw (c .before .before .before .before .before .eight-zeros .ensures) (ready-tests (s .args .r .now) (s .pre) _ _ _ _ _ _)
 
 pub ready-task-spec : {M : Type 1} → statement M

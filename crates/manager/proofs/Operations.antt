@@ -10,7 +10,7 @@ use Rattle.records.specs.Layout.{slotOf}
 use Rattle.records.specs.Records.{Queue, freeBuffer}
 use Rattle.records.specs.Bytes.{Tables, decodeQueue, decodeQueues, decodePool, decodeTasks, decode, encode}
 use Rattle.records.specs.Changes.{atIndex, withPending, freed, readyWith}
-use Rattle.records.specs.Status.{INVALID-ID, ILLEGAL-ON-REMOTE-OBJECT}
+use Rattle.records.specs.Status.{OBJECT-WAS-DELETED, INVALID-ID, ILLEGAL-ON-REMOTE-OBJECT}
 use Rattle.specification.specs.Answer.{Refusal, _⇒_, firstStatus}
 use Rattle.specification.specs.Call.{getNumberPending, flush, delete}
 use Rattle.specification.specs.Lookup.{usableQueue, isForeign, waitersOf, withoutMessages, withoutWaiters}
@@ -52,7 +52,7 @@ module _ (t : Tables) (caller id : ℕ) (q : Queue) (read : q ≡ decodeQueue (s
 
     pub delete-done : (tasks′ : List ℕ) (woken : ℕ) → woken ≡ mask (mapWithIndex (λ k w. inQueue (slotOf id) (w .position)) (decodeTasks (t .tasks)))
         → decodeQueues queues′ ≡ mapWithIndex (atIndex (slotOf id) freed) (decodeQueues (t .queues))
-        → decodeTasks tasks′ ≡ mapWithIndex (λ k w. if inQueue (slotOf id) (w .position) then readyWith 8 w else w) (decodeTasks (t .tasks))
+        → decodeTasks tasks′ ≡ mapWithIndex (λ k w. if inQueue (slotOf id) (w .position) then readyWith OBJECT-WAS-DELETED w else w) (decodeTasks (t .tasks))
         → encode (decode (tables queues′ pool′ tasks′)) ≡ tables queues′ pool′ tasks′
         → Answers t caller id delete q read (Successful 0 woken) (tables queues′ pool′ tasks′)
     unfolding answerOf operationRefusals operationEffect Delete.refusals Delete.effect withoutMessages withoutWaiters waitersOf decode

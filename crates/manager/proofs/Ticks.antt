@@ -16,6 +16,7 @@ use Rattle.ranks.proofs.Tests.{both}
 use Rattle.records.specs.Records.{Task, State, taskAt}
 use Rattle.records.specs.Bytes.{Tables, decodeTask, decodeQueues, decodePool, decodeTasks, decode, encode, rightLengths}
 use Rattle.records.specs.Changes.{atIndex, moveTask, readyWith, withTicks, withWaiters}
+use Rattle.records.specs.Status.{TIMEOUT}
 use Rattle.records.specs.TaskHeads.{headOf}
 use Rattle.records.specs.declared.task.TaskHead.{TaskHead}
 use Rattle.records.proofs.Access.{task-at, ones-mask}
@@ -41,7 +42,7 @@ use Rattle.manager.proofs.Outcomes.{Slice}
 abbrev byHead : State → ℕ → TaskHead → State
 byHead s t x =
     if eqb (x .state) 1 && eqb (x .ticksLeft) 1
-    then leave s t (pred (x .queue)) (x .rank) (readyWith 7)
+    then leave s t (pred (x .queue)) (x .rank) (readyWith TIMEOUT)
     else if eqb (x .state) 1 && leb 1 (x .ticksLeft)
     then record { queues = s .queues; pool = s .pool; tasks = mapWithIndex (atIndex t (withTicks (x .ticksLeft - 1))) (s .tasks) }
     else s
@@ -53,12 +54,12 @@ module _ (q p w : List ℕ) (t : ℕ) (h : t < 32) (x : TaskHead) (read : x ≡ 
 
   pub timed-out : (q′ w′ : List ℕ) (slot : ℕ) → (eqb (x .state) 1 && eqb (x .ticksLeft) 1) ≡ true → slot ≡ pred (x .queue)
       → decodeQueues q′ ≡ mapWithIndex (atIndex slot (λ y. withWaiters (y .waiters - 1) y)) (decodeQueues q)
-      → decodeTasks w′ ≡ mapWithIndex (λ j v. if eqb j t then readyWith 7 v else moveTask (takenOut t slot (x .rank) j (v .position)) v) (decodeTasks w)
+      → decodeTasks w′ ≡ mapWithIndex (λ j v. if eqb j t then readyWith TIMEOUT v else moveTask (takenOut t slot (x .rank) j (v .position)) v) (decodeTasks w)
       → decode (tables q′ p w′) ≡ tickTask (decode (tables q p w)) t
   unfolding decode leave
   timed-out q′ w′ slot e at eq ew =
       (λ i. record { queues = eq i; pool = decodePool p; tasks = ew i })
-      ∙ ap (λ (k : ℕ). leave (decode (tables q p w)) t k (x .rank) (readyWith 7)) at
+      ∙ ap (λ (k : ℕ). leave (decode (tables q p w)) t k (x .rank) (readyWith TIMEOUT)) at
       ∙ rw e refl ∙ by-head
 
   module _ (stays : (eqb (x .state) 1 && eqb (x .ticksLeft) 1) ≡ false) where

@@ -13,13 +13,20 @@ use borrow.Author.Needs.{needs}
 use Rattle.message_manager.proofs.logs.message_manager_call.Statement.{statement}
 use Rattle.message_manager.proofs.logs.message_manager_call.Tie as tie
 
+-- Places of the code, each from one that comes after it.
+abbrev entry : tie.After-answer-searching-arg2 → tie.Start
+entry p = p .before .before .before .before .before .before .before .before
+
+abbrev at-answer-searching : tie.After-first-byte → tie.After-answer-searching
+at-answer-searching p = p .before .before .before .before .before .before .before .before
+
 returns : tie.Need-returns
 returns c = another-length _ _ _ _ (c .if1 .taken)
 
 returns-2 : tie.Need-returns-2
 returns-2 c =
-    let s = c .before .before .before .before .before .before .before .before .before .before .before in
-    let a = s .before .before .before .before .before .before .before .before .before .before .before .before .args in
+    let s = at-answer-searching (c .before .before .before) in
+    let a = entry (s .before .before .before .before) .args in
     let t = tables (a .queues .now) (a .pool .now) (a .tasks .now) in
     let o = outcomeFor t (readRecord (a .bytes .now)) (drop 16 (a .bytes .now)) in
     let done = s .answer-searching .ensures ∙ ap₂ {C = Outcome Tables} (outcomeFor t) (s .before .before .read-record .ensures) (s .before .message-field .ensures) in

@@ -6,10 +6,14 @@ use Rattle.message_manager.proofs.logs.message_manager_replay.Statement
 use Rattle.message_manager.proofs.logs.message_manager_replay.Tie as tie
 
 returns : tie.Need-returns
-returns c = rw (c .if1 .taken) at (ap returnedOf (c .before .before .before .before .before .before .before .before .before .replay .ensures))
+returns c =
+    let last = c .before .before .before .before in
+    rw (c .if1 .taken) at (ap returnedOf (last .before .before .before .before .before .replay .ensures))
 
 returns-2 : tie.Need-returns-2
-returns-2 c = rw (c .if1 .left) at (ap returnedOf (c .before .before .before .before .before .before .before .before .before .replay .ensures))
+returns-2 c =
+    let last = c .before .before .before .before in
+    rw (c .if1 .left) at (ap returnedOf (last .before .before .before .before .before .replay .ensures))
 
 pub message-manager-replay-spec : {M : Type 1} → statement M
 message-manager-replay-spec = tie.close (tie.spec (search needs) (search needs) (search needs) (search needs) (search needs) (search needs) returns (search needs) (search needs) (search needs) (search needs) (search needs) returns-2)

@@ -41,7 +41,7 @@ use Rattle.manager.proofs.Outcomes.{Slice}
 abbrev byHead : State → ℕ → TaskHead → State
 byHead s t x =
     if isLastTick (x .state) (x .ticksLeft)
-    then leave s t (pred (x .queue)) (x .rank) (readyWith 7)
+    then leave s t (pred (x .queue)) (x .rank) (readyWith TIMEOUT)
     else if isTicking (x .state) (x .ticksLeft)
     then record { queues = s .queues; pool = s .pool; tasks = mapWithIndex (atIndex t (withTicks (x .ticksLeft - 1))) (s .tasks) }
     else s
@@ -58,7 +58,7 @@ module _ (q p w : List ℕ) (t : ℕ) (h : t < 32) (x : TaskHead) (read : x ≡ 
   unfolding decode leave
   timed-out q′ w′ slot e at eq ew =
       (λ i. record { queues = eq i; pool = decodePool p; tasks = ew i })
-      ∙ ap (λ (k : ℕ). leave (decode (tables q p w)) t k (x .rank) (readyWith 7)) at
+      ∙ ap (λ (k : ℕ). leave (decode (tables q p w)) t k (x .rank) (readyWith TIMEOUT)) at
       ∙ rw e refl ∙ by-head
 
   module _ (stays : (isLastTick (x .state) (x .ticksLeft)) ≡ false) where

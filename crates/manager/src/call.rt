@@ -29,7 +29,7 @@ pub fn bad_caller(queues: &[u8], pool: &[u8], tasks: &[u8], caller: u32) -> bool
     h.state == 1
 }
 
-// The first test of the tables that they fail, 16 or 10.
+// The first test of the tables that they fail, 16 or 10, if any.
 pub fn table_refusal(queues: &[u8], pool: &[u8], tasks: &[u8]) -> Verdict
     ensures { λ r. ⌜ verdictStatus r ≡ firstStatus (tableRefusals (tables (now (queues .entry)) (now (pool .entry)) (now (tasks .entry)))) ⌝ }
 {
@@ -42,7 +42,7 @@ pub fn table_refusal(queues: &[u8], pool: &[u8], tasks: &[u8]) -> Verdict
     Verdict::Passed
 }
 
-// The first of the tests 16, 10 and 11 that refuses the call, on tables whose own tests gave this verdict.
+// The first of the tests 16, 10 and 11 that refuses the call, if any, on tables whose own tests gave this verdict.
 pub fn caller_refusal(
     queues: &[u8],
     pool: &[u8],

@@ -22,7 +22,7 @@ use records::queue::write_queue;
 use records::status::RefusalStatus;
 use records::status::Verdict;
 
-// The first refusal.
+// The first refusal, if any.
 fn refusal(q: QueueRecord, caller: usize, id: u32, size: usize) -> Verdict
     requires { ⌜ caller < 32 ⌝ }
     ensures { λ r. ⌜ verdictStatus r ≡ firstStatus ((not (usableQueue q caller id) ⇒ INVALID-ID) ∷ (not (sizeAllowed q size) ⇒ INVALID-SIZE) ∷ []) ⌝ }

@@ -59,7 +59,7 @@ fn outside(low: u32, high: u32, x: u32) -> bool
     !((low <= x) & (x <= high))
 }
 
-// The first refusal. The slot is the one that create would take.
+// The first refusal, if any. The slot is the one that create would take.
 fn refusal(
     queues: &[u8],
     share: usize,

@@ -26,7 +26,7 @@ use records::queue::write_queue;
 use records::status::RefusalStatus;
 use records::status::Verdict;
 
-// The first refusal. The message at rank 0 is in buffer b, if there is one.
+// The first refusal, if any. The message at rank 0 is in buffer b, if there is one.
 fn refusal(q: QueueRecord, caller: usize, id: u32, option: u32, b: usize) -> Verdict
     requires { ⌜ caller < 32 ⌝ }
     ensures { λ r. ⌜ verdictStatus r ≡ firstStatus

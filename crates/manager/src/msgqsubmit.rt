@@ -28,7 +28,7 @@ use records::shares::share_of_slot;
 use records::status::RefusalStatus;
 use records::status::Verdict;
 
-// The first refusal. Task t is the first waiter, and b the buffer that would be used.
+// The first refusal, if any. Task t is the first waiter, and b the buffer that would be used.
 fn refusal(q: QueueRecord, caller: usize, id: u32, size: usize, t: usize, b: usize) -> Verdict
     requires { ⌜ caller < 32 ⌝ }
     ensures { λ r. ⌜ verdictStatus r ≡ firstStatus

@@ -6,7 +6,8 @@ use Rattle.ranks.specs.Position.{positionAt}
 use Rattle.records.specs.Split.{shareOfSlot, shareOfBuffer, shareOfTask, shareLimit}
 use Rattle.records.specs.Records.{Queue, Buffer, Task, freeQueue, freeBuffer, freshTask, fresh}
 use Rattle.records.specs.Bytes.{decodeQueue, encodeQueue, decodeBuffer, encodeBuffer, decodeTask, encodeTask, encode}
-use Rattle.records.specs.Changes.{withPending, withWaiters, moveBuffer, messageBuffer, withTicks, moveTask, readyWith, withMessage, waitingAt}
+use Rattle.records.specs.Changes.{withPending, withWaiters, withGeneration, liveWith, freed, moveBuffer, messageBuffer, withTicks, moveTask, readyWith, withMessage, waitingAt}
+use Rattle.records.specs.Status.{TIMEOUT}
 
 -- ---- Every byte of these is one more than its place.
 
@@ -78,6 +79,10 @@ recordCases =
     -- other counts
     ∷ (encodeQueue (withPending 100 exampleQueue) are (1 ∷ 2 ∷ 3 ∷ 4 ∷ 5 ∷ 6 ∷ 100 ∷ numbersFrom 8 9))
     ∷ (encodeQueue (withWaiters 100 exampleQueue) are (1 ∷ 2 ∷ 3 ∷ 4 ∷ 5 ∷ 6 ∷ 7 ∷ 100 ∷ numbersFrom 9 8))
+    -- another generation, a live queue with no message and no waiter, and one that is zeroed but for its generation
+    ∷ (encodeQueue (withGeneration 0x0201 exampleQueue) are (1 ∷ 2 ∷ 3 ∷ 4 ∷ 1 ∷ 2 ∷ numbersFrom 7 10))
+    ∷ (encodeQueue (liveWith 0x04030201 100 101 102 exampleQueue) are (1 ∷ 102 ∷ 100 ∷ 101 ∷ 5 ∷ 6 ∷ 0 ∷ 0 ∷ 1 ∷ 2 ∷ 3 ∷ 4 ∷ zeros 4))
+    ∷ (encodeQueue (freed exampleQueue) are (0 ∷ 0 ∷ 0 ∷ 0 ∷ 5 ∷ 6 ∷ zeros 10))
     -- a message of two bytes at rank 2 of the queue in slot 4, and a message that moves there
     ∷ (encodeBuffer (messageBuffer (positionAt 4 2) (201 ∷ 202 ∷ [])) are (5 ∷ 2 ∷ 2 ∷ zeros 5 ++ (201 ∷ 202 ∷ zeros 118)))
     ∷ (encodeBuffer (moveBuffer (positionAt 4 2) exampleBuffer) are (5 ∷ 2 ∷ numbersFrom 3 126))
@@ -85,7 +90,7 @@ recordCases =
     ∷ (encodeTask (withMessage (201 ∷ 202 ∷ 203 ∷ []) exampleTask)
     are (0 ∷ 0 ∷ 0 ∷ 4 ∷ 0 ∷ 3 ∷ 7 ∷ 8 ∷ 0 ∷ 0 ∷ 0 ∷ 0 ∷ 13 ∷ 14 ∷ 15 ∷ 16 ∷ 201 ∷ 202 ∷ 203 ∷ numbersFrom 20 117))
     -- a task that timed out
-    ∷ (encodeTask (readyWith 7 exampleTask) are (0 ∷ 0 ∷ 0 ∷ 4 ∷ 7 ∷ 6 ∷ 7 ∷ 8 ∷ 0 ∷ 0 ∷ 0 ∷ 0 ∷ numbersFrom 13 124))
+    ∷ (encodeTask (readyWith TIMEOUT exampleTask) are (0 ∷ 0 ∷ 0 ∷ 4 ∷ 7 ∷ 6 ∷ 7 ∷ 8 ∷ 0 ∷ 0 ∷ 0 ∷ 0 ∷ numbersFrom 13 124))
     -- "the caller waits, status 14, length 0, ticks left as given"
     ∷ (encodeTask (waitingAt (positionAt 4 2) 0x04030201 exampleTask) are (1 ∷ 5 ∷ 2 ∷ 4 ∷ 14 ∷ 0 ∷ 7 ∷ 8 ∷ 1 ∷ 2 ∷ 3 ∷ 4 ∷ numbersFrom 13 124))
     -- a waiter that moves, and one with other ticks

@@ -15,6 +15,7 @@ use Rattle.ranks.proofs.Lists.{all-cons, all-nil, holds, held}
 use Rattle.records.specs.Split.{shareOfSlot, shareOfBuffer, shareOfTask}
 use Rattle.records.specs.Records.{Queue, Buffer, Task, State, queueAt, isLive, isOpen, sizeAllowed}
 use Rattle.records.specs.Bytes.{fromLittleEndian}
+use Rattle.records.specs.Status.{WAITING}
 use Rattle.records.proofs.ZeroBytes.{zero-number, zeros-one, zeros-add}
 use Rattle.specification.proofs.Rules.{Live, Free, queue-rules}
 use Rattle.soundness.specs.Parts.{belowCount, bufferTests, taskTests}
@@ -170,7 +171,7 @@ module _ (s : State) (t : ℕ) (w : Task) where
     task-beyond h = rw (eq-eqb (w .state) 1 o, named-slot, named, le-ltb slot 16 h) (simp (all-cons, and-false))
 
     pub task-waiting : slot < 16
-        → (allTrue (taskRules w) && (isLive (queueAt s slot) && (eqb (shareOfSlot slot) (shareOfTask t) || isOpen (queueAt s slot)) && eqb (w .status) 14 && eqb (w .messageLength) 0)
+        → (allTrue (taskRules w) && (isLive (queueAt s slot) && (eqb (shareOfSlot slot) (shareOfTask t) || isOpen (queueAt s slot)) && eqb (w .status) WAITING && eqb (w .messageLength) 0)
         && ltb (w .position .rank) (queueAt s slot .waiters)) ≡ taskTests s t w
     unfolding soundTask waitingTaskRules
     task-waiting h = rw (eq-eqb (w .state) 1 o, named-slot, named, lt-ltb slot 16 h, not-none _ _ e) (simp (all-cons, all-nil, and-true, and-assoc))

@@ -8,6 +8,7 @@ ghost use Rattle.ranks.specs.Lists.{allTrue, every};
 ghost use Rattle.ranks.specs.Table.{byte};
 ghost use Rattle.records.specs.Records.{isLive, isOpen};
 ghost use Rattle.records.specs.Bytes.{decodeTask, decodeQueues, decodeTasks};
+ghost use Rattle.records.specs.Status.{WAITING};
 ghost use Rattle.specification.specs.Sound.{taskRules, readyTaskRules, soundTask};
 ghost use Rattle.soundness.specs.Parts.{onlyQueues, taskPositions, taskTests, queueRanked};
 use crate::ranked::every_ranked;
@@ -16,6 +17,10 @@ use records::queue::QueueRecord;
 use records::queue::read_queue;
 use records::shares::share_of_slot;
 use records::shares::share_of_task;
+use records::status::OBJECT_WAS_DELETED;
+use records::status::SUCCESSFUL;
+use records::status::TIMEOUT;
+use records::status::WAITING;
 use records::zeros::eight_zeros;
 use records::zeros::four_zeros;
 use records::zeros::two_zeros;
@@ -32,17 +37,17 @@ fn ready_task(r: &[u8]) -> bool
         & (r[7] == 0)
         & eight_zeros(r, 8)
         & (1 <= r[3])
-        & ((r[4] == 0) | (r[4] == 7) | (r[4] == 8))
+        & ((r[4] == SUCCESSFUL) | (r[4] == TIMEOUT) | (r[4] == OBJECT_WAS_DELETED))
         & (r[5] <= 120)
 }
 
 // The task may wait in the queue, which is of its own share or not, and its rank is below the queue's count.
 fn waiting_task(q: QueueRecord, own: bool, r: &[u8]) -> bool
     requires { ⌜ length (now r) ≡ 136 ⌝ }
-    ensures { λ x. ⌜ x ≡ (allTrue (taskRules (decodeTask (now (r .entry)))) && (isLive q && (own || isOpen q) && eqb (byte 4 (now (r .entry))) 14 && eqb (byte 5 (now (r .entry))) 0) && ltb (byte 2 (now (r .entry))) (q .waiters)) ⌝ }
+    ensures { λ x. ⌜ x ≡ (allTrue (taskRules (decodeTask (now (r .entry)))) && (isLive q && (own || isOpen q) && eqb (byte 4 (now (r .entry))) WAITING && eqb (byte 5 (now (r .entry))) 0) && ltb (byte 2 (now (r .entry))) (q .waiters)) ⌝ }
 {
     ((1 <= r[3]) & two_zeros(r, 6) & four_zeros(r, 12))
-        & ((q.live == 1) & (own | (q.attributes / 2 % 2 == 1)) & (r[4] == 14) & (r[5] == 0))
+        & ((q.live == 1) & (own | (q.attributes / 2 % 2 == 1)) & (r[4] == WAITING) & (r[5] == 0))
         & (r[2] < q.waiters)
 }
 

@@ -1,6 +1,7 @@
 -- Document 01, "Status numbers": answers, and refusals in their order.
 use Rattle.ranks.specs.Prelude.{ℕ, Bool, true, false, List, [], _∷_}
 use Rattle.ranks.specs.Lists.{if_then_else_}
+use Rattle.records.specs.Status.{SUCCESSFUL}
 
 -- "An answer is status, value (32 bits) and a woken mask, bit t for task t."
 pub record Answer : Type 0 where
@@ -34,7 +35,7 @@ unfoldable pub refuseIfAny : {S : Type 0} → S → List Refusal → Outcome S �
 refuseIfAny s [] effect = effect
 refuseIfAny s (r ∷ rs) effect = if r .holds then refuse s (r .status) else refuseIfAny s rs effect
 
--- The status of the first reason that holds; 0 where none does.
+-- The status of the first reason that holds; SUCCESSFUL where none does.
 unfoldable pub firstStatus : List Refusal → ℕ
-firstStatus [] = 0
+firstStatus [] = SUCCESSFUL
 firstStatus (r ∷ rs) = if r .holds then r .status else firstStatus rs

@@ -14,7 +14,7 @@ use Rattle.records.specs.Layout.{slotOf}
 use Rattle.records.specs.Split.{shareOfSlot, shareOfTask}
 use Rattle.records.specs.Records.{Queue, Task, State, taskAt, freeQueue, freshTask}
 use Rattle.records.specs.Changes.{atIndex, withTicks, readyWith, withMessage}
-use Rattle.records.specs.Status.{TIMEOUT}
+use Rattle.records.specs.Status.{TIMEOUT, OBJECT-WAS-DELETED}
 use Rattle.specification.specs.Sound.{slotIn}
 use Rattle.specification.specs.Call.{Operation, Call, delete, send, urgent, broadcast, receive, getNumberPending, flush, create, ident, onQueue, call, tick}
 use Rattle.specification.specs.Lookup.{firstWaiter, hasWaiter, firstMessage, hasMessage, leave, withoutWaiters}
@@ -120,7 +120,7 @@ module _ {x : ℕ} {s : State} (p : Confined x s) where
   operation-confined : (caller slot : ℕ) → shareOfSlot slot ≡ x → (o : Operation) → ConfinedRecords x (operationEffect s caller slot o .after)
   unfolding operationEffect Delete.effect Broadcast.effect GetNumberPending.effect Flush.effect
   operation-confined caller slot own delete =
-      record { closed = closed-at slot _ (λ q h. omega arith); home = withoutWaiters-home slot (readyWith 8) (λ w. refl) }
+      record { closed = closed-at slot _ (λ q h. omega arith); home = withoutWaiters-home slot (readyWith OBJECT-WAS-DELETED) (λ w. refl) }
   operation-confined caller slot own (send message) = submit-confined slot _ message
   operation-confined caller slot own (urgent message) = submit-confined slot _ message
   operation-confined caller slot own (broadcast message) =

@@ -15,6 +15,10 @@ Inv-loop queues₀ pool tasks₀ woken t₀ queues tasks t = TickedBelow queues�
 abbrev μ-loop : tie.MeasureT-loop
 μ-loop queues₀ pool tasks₀ woken t₀ queues tasks t = 32 - t
 
+-- Places of the code, each from one that comes after it.
+abbrev entry : tie.After-expired-mask Inv-loop μ-loop → tie.Start Inv-loop μ-loop
+entry p = p .before .before .before .before .before
+
 expired-mask-requires : tie.Need-expired-mask-requires Inv-loop μ-loop
 expired-mask-requires c κs =
     let s = c .before .before .before .before in
@@ -29,7 +33,7 @@ loop-holds c =
 tick-task-requires : tie.Need-tick-task-requires Inv-loop μ-loop
 tick-task-requires c κs =
     let v = c .before .before .before .loop in
-    let s = c .before .before .before .before .before .before .before .before .before in
+    let s = entry (c .before .before .before .before) in
     let a = s .args in
     let sizes = lengths (tables (a .queues .now) (a .pool .now) (a .tasks .now)) (s .pre .0) in
     let below = c .before .before .loop-test .taken in

@@ -7,6 +7,10 @@ use borrow.Author.Needs.{needs}
 use Rattle.manager.proofs.clocktick.tick_after.Statement.{statement}
 use Rattle.manager.proofs.clocktick.tick_after.Tie as tie
 
+-- Places of the code, each from one that comes after it.
+abbrev entry : tie.After-tick → tie.Start
+entry p = p .before .before .before .before .before .before .before .before
+
 returns : tie.Need-returns
 returns c =
     let s = c .before .before .before .before .before .before in
@@ -19,7 +23,7 @@ tick-requires c κs =
 
 returns-2 : tie.Need-returns-2
 returns-2 c =
-    let s = c .before .before .before .before .before .before .before .before .before .before .before .before in
+    let s = entry (c .before .before .before .before) in
     let t = tables (s .args .queues .now) (s .args .pool .now) (s .args .tasks .now) in
     let ok = table-passed t (tells (c .before .before .before .before .before .before .before .enum-told .given .1) (s .pre)) in
     c .before .before .before .before .tick .ensures ∙ tick-accepted t (ok .0) (ok .1)

@@ -8,20 +8,27 @@ use borrow.Author.Needs.{needs}
 use Rattle.manager.proofs.msgqbroadcast.message_queue_broadcast.Statement.{statement}
 use Rattle.manager.proofs.msgqbroadcast.message_queue_broadcast.Tie as tie
 
+-- Places of the code, each from one that comes after it.
+abbrev entry : tie.After-call-refusal → tie.Start
+entry p = p .before .before .before .before .before .before .before
+
+abbrev at-call-refusal : tie.After-broadcast → tie.After-call-refusal
+at-call-refusal p = p .before .before .before .before .before
+
 returns : tie.Need-returns
 returns c =
-    let a = c .before .before .before .before .before .before .before .before .before .before .args in
+    let a = entry (c .before .before .before) .args in
     refused-call (tables (a .queues .now) (a .pool .now) (a .tasks .now)) (a .caller) (onQueue (a .id) (broadcast (a .message .now))) _ (tells (c .before .verdict .given .1) (c .before .before .before .call-refusal .ensures))
 
 broadcast-requires : tie.Need-broadcast-requires
 broadcast-requires c κs =
-    let a = c .before .before .before .before .before .before .before .before .before .before .before .args in
+    let a = entry (c .before .before .before .before) .args in
     callable (tables (a .queues .now) (a .pool .now) (a .tasks .now)) (a .caller) (tells (c .before .before .enum-told .given .1) (c .before .before .before .before .call-refusal .ensures))
 
 returns-2 : tie.Need-returns-2
 returns-2 c =
-    let a = c .before .before .before .before .before .before .before .before .before .before .before .before .before .before .before .before .args in
-    c .before .before .before .before .broadcast .ensures ∙ accepted-call (tables (a .queues .now) (a .pool .now) (a .tasks .now)) (a .caller) (tells (c .before .before .before .before .before .before .before .enum-told .given .1) (c .before .before .before .before .before .before .before .before .before .call-refusal .ensures)) (onQueue (a .id) (broadcast (a .message .now)))
+    let a = entry (at-call-refusal (c .before .before .before .before)) .args in
+    c .before .before .before .before .broadcast .ensures ∙ accepted-call (tables (a .queues .now) (a .pool .now) (a .tasks .now)) (a .caller) (tells (c .before .before .before .before .before .before .before .enum-told .given .1) (at-call-refusal (c .before .before .before .before) .call-refusal .ensures)) (onQueue (a .id) (broadcast (a .message .now)))
 
 pub message-queue-broadcast-spec : {M : Type 1} → statement M
 message-queue-broadcast-spec = tie.close (tie.spec (search needs) (search needs) (search needs) (search needs) returns (search needs) broadcast-requires (search needs) (search needs) returns-2)

@@ -13,6 +13,10 @@ use borrow.Author.Needs.{needs}
 use Rattle.manager.proofs.msgqcreate.create_in.Statement.{statement}
 use Rattle.manager.proofs.msgqcreate.create_in.Tie as tie
 
+-- Places of the code, each from one that comes after it.
+abbrev entry : tie.After-write-queue → tie.Start
+entry p = p .before .before .before .before .before .before .before .before
+
 add-generation : tie.Need-add-generation
 add-generation c =
     let fresh = c .before .before .before .before .pre .1 .1 in
@@ -21,7 +25,7 @@ add-generation c =
 
 returns : tie.Need-returns
 returns c =
-    let s = c .before .before .before .before .before .before .before .before .before .before .before in
+    let s = entry (c .before .before .before) in
     let a = s .args in
     let q = c .before .before .before .before .before .before .before .before .read-queue in
     let raised = c .before .before .before .before .before .with-generation in

@@ -8,6 +8,10 @@ use borrow.Author.Needs.{needs}
 use Rattle.manager.proofs.msgqcreate.message_queue_create.Statement.{statement}
 use Rattle.manager.proofs.msgqcreate.message_queue_create.Tie as tie
 
+-- Places of the code, each from one that comes after it.
+abbrev entry : tie.After-call-refusal → tie.Start
+entry p = p .before .before .before .before .before
+
 returns : tie.Need-returns
 returns c =
     let a = c .before .before .before .before .before .before .before .before .args in
@@ -20,7 +24,7 @@ create-requires c κs =
 
 returns-2 : tie.Need-returns-2
 returns-2 c =
-    let a = c .before .before .before .before .before .before .before .before .before .before .before .args in
+    let a = entry (c .before .before .before .before .before .before) .args in
     c .before .before .create .ensures ∙ accepted-call (tables (a .queues .now) (a .pool .now) (a .tasks .now)) (a .caller) (tells (c .before .before .before .before .enum-told .given .1) (c .before .before .before .before .before .before .call-refusal .ensures)) (create (a .name) (a .limit) (a .size) (a .attributes))
 
 pub message-queue-create-spec : {M : Type 1} → statement M

@@ -11,6 +11,10 @@ use borrow.Author.Needs.{needs}
 use Rattle.manager.proofs.msgqident.ident.Statement.{statement}
 use Rattle.manager.proofs.msgqident.ident.Tie as tie
 
+-- Places of the code, each from one that comes after it.
+abbrev entry : tie.After-read-queue → tie.Start
+entry p = p .before .before .before .before .before .before .before .before
+
 returns : tie.Need-returns
 returns c =
     let a = c .before .before .before .before .args in
@@ -41,7 +45,7 @@ read-queue-requires c κs =
 returns-4 : tie.Need-returns-4
 unfolding idOf
 returns-4 c =
-    let s = c .before .before .before .before .before .before .before .before .before in
+    let s = entry (c .before) in
     let a = s .args in
     let t : Tables = tables (a .queues .now) (a .pool .now) (a .tasks .now) in
     let n = c .before .before .before .named in

@@ -5,6 +5,13 @@ use borrow.Author.Needs.{needs}
 use Rattle.message_manager.proofs.directives.message_queue_delete.Statement.{statement}
 use Rattle.message_manager.proofs.directives.message_queue_delete.Tie as tie
 
+-- Places of the code, each from one that comes after it.
+abbrev at-message-queue-delete-arg3 : tie.After-write-answer-arg → tie.After-message-queue-delete-arg3
+at-message-queue-delete-arg3 p = p .before .before .before .before .before .before .before .before
+
+abbrev at-message-queue-delete : tie.After-write-answer-arg → tie.After-message-queue-delete
+at-message-queue-delete p = p .before .before .before .before .before .before .before
+
 returns : tie.Need-returns
 returns c = another-length _ _ _ _ (c .if1 .taken)
 
@@ -12,8 +19,8 @@ returns-2 : tie.Need-returns-2
 unfolding callNumber operationNumber
 returns-2 c =
     answered _ _ _
-    (c .before .before .before .before .before .before .before .before .before .before .before .before .before .before .if1 .left)
-    (c .before .before .before .before .before .before .before .before .before .before .message-queue-delete .ensures)
+    (at-message-queue-delete-arg3 (c .before .before .before) .before .before .before .if1 .left)
+    (at-message-queue-delete (c .before .before .before) .message-queue-delete .ensures)
     (c .before .before .write-answer .ensures)
 
 pub message-queue-delete-spec : {M : Type 1} → statement M

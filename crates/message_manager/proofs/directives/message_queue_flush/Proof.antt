@@ -5,6 +5,10 @@ use borrow.Author.Needs.{needs}
 use Rattle.message_manager.proofs.directives.message_queue_flush.Statement.{statement}
 use Rattle.message_manager.proofs.directives.message_queue_flush.Tie as tie
 
+-- Places of the code, each from one that comes after it.
+abbrev at-if1 : tie.After-message-queue-flush → tie.Else1
+at-if1 p = p .before .before .before
+
 returns : tie.Need-returns
 returns c = another-length _ _ _ _ (c .if1 .taken)
 
@@ -12,7 +16,7 @@ returns-2 : tie.Need-returns-2
 unfolding callNumber operationNumber
 returns-2 c =
     answered _ _ _
-    (c .before .before .before .before .before .before .before .before .before .before .before .if1 .left)
+    (at-if1 (c .before .before .before .before .before .before .before .before) .if1 .left)
     (c .before .before .before .before .before .before .before .before .message-queue-flush .ensures)
     (c .before .before .write-answer .ensures)
 

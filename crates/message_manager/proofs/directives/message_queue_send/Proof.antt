@@ -5,6 +5,13 @@ use borrow.Author.Needs.{needs}
 use Rattle.message_manager.proofs.directives.message_queue_send.Statement.{statement}
 use Rattle.message_manager.proofs.directives.message_queue_send.Tie as tie
 
+-- Places of the code, each from one that comes after it.
+abbrev at-message-queue-send-arg2 : tie.After-slice-known7 → tie.After-message-queue-send-arg2
+at-message-queue-send-arg2 p = p .before .before .before .before .before .before .before .before
+
+abbrev at-message-queue-send : tie.After-slice-known7 → tie.After-message-queue-send
+at-message-queue-send p = p .before .before .before .before .before .before
+
 returns : tie.Need-returns
 returns c = another-length _ _ _ _ (c .if1 .taken)
 
@@ -12,8 +19,8 @@ returns-2 : tie.Need-returns-2
 unfolding callNumber operationNumber
 returns-2 c =
     answered _ _ _
-    (c .before .before .before .before .before .before .before .before .before .before .before .before .before .before .if1 .left)
-    (c .before .before .before .before .before .before .before .before .before .before .message-queue-send .ensures)
+    (at-message-queue-send-arg2 (c .before .before .before .before) .before .before .if1 .left)
+    (at-message-queue-send (c .before .before .before .before) .message-queue-send .ensures)
     (c .before .before .write-answer .ensures)
 
 pub message-queue-send-spec : {M : Type 1} → statement M

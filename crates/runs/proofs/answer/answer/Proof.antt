@@ -7,14 +7,21 @@ use borrow.Author.Needs.{needs}
 use Rattle.runs.proofs.answer.answer.Statement.{statement}
 use Rattle.runs.proofs.answer.answer.Tie as tie
 
+-- Places of the code, each from one that comes after it.
+abbrev entry : tie.After-found → tie.Start
+entry p = p .before .before .before .before .before .before
+
+abbrev at-found : tie.After-answer-call → tie.After-found
+at-found p = p .before .before .before .before .before
+
 answer-call-requires : tie.Need-answer-call-requires
-answer-call-requires c κs = c .before .before .before .before .before .before .before .before .before .before .pre
+answer-call-requires c κs = entry (c .before .before .before .before) .pre
 
 returns : tie.Need-returns
 unfolding outcomeFor
 returns c =
-    let a = c .before .before .before .before .before .before .before .before .before .before .before .before .before .before .before .before .before .args in
-    c .before .before .before .before .before .before .answer-call .ensures ∙ sym (ap (λ (x : LogResult). outcomeFor (tables (a .queues .now) (a .pool .now) (a .tasks .now)) x (a .field .now)) (c .before .before .before .before .before .before .before .before .before .before .before .found .given .1))
+    let a = entry (at-found (c .before .before .before .before .before .before)) .args in
+    c .before .before .before .before .before .before .answer-call .ensures ∙ sym (ap (λ (x : LogResult). outcomeFor (tables (a .queues .now) (a .pool .now) (a .tasks .now)) x (a .field .now)) (at-found (c .before .before .before .before .before .before) .found .given .1))
 
 returns-2 : tie.Need-returns-2
 unfolding answerOf outcomeFor

@@ -8,6 +8,7 @@ use Rattle.ranks.specs.Lists.{allTrue}
 use Rattle.ranks.specs.Table.{byte}
 use Rattle.records.specs.Records.{Queue, freeQueue, isLive, isOpen}
 use Rattle.records.specs.Bytes.{decodeQueue, decodeTask}
+use Rattle.records.specs.Status.{WAITING}
 use Rattle.records.proofs.Writing.{at-table}
 use Rattle.specification.specs.Sound.{taskRules}
 use Rattle.soundness.specs.Parts.{onlyQueues}
@@ -53,7 +54,7 @@ returns-5 c =
     let r = a .r .now in
     let lt = c .before .before .before .before .if4 .left in
     c .waiting-task .ensures
-    ∙ ap₂ (λ (own : Bool) (q : Queue). allTrue (taskRules (decodeTask r)) && (isLive q && (own || isOpen q) && eqb (byte 4 r) 14 && eqb (byte 5 r) 0) && ltb (byte 2 r) (q .waiters))
+    ∙ ap₂ (λ (own : Bool) (q : Queue). allTrue (taskRules (decodeTask r)) && (isLive q && (own || isOpen q) && eqb (byte 4 r) WAITING && eqb (byte 5 r) 0) && ltb (byte 2 r) (q .waiters))
     (ap₂ eqb (c .before .before .share-of-slot .ensures) (c .before .share-of-task .ensures))
     (c .before .before .before .read-queue .ensures ∙ sym (at-table decodeQueue 16 16 t (w .wide .result - 1) lt (freeQueue 0)))
     ∙ task-waiting (onlyQueues t) (a .t) (decodeTask r) (c .before .before .before .before .before .before .before .before .if2 .left) (w .wide .result - 1) (sym (w .wide .ensures .0) ∙ omega arith) lt

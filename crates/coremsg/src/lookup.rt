@@ -1,13 +1,12 @@
 // What the directives ask of a queue record.
 ghost use mathlib.Core.Path.{_≡_};
 ghost use mathlib.Core.Bool.{not};
-ghost use mathlib.Core.List.{[], _∷_};
 ghost use Prim.Native.Nat.{_-_, _<_};
-ghost use Rattle.records.specs.Layout.{idOf, slotOf};
+ghost use Rattle.records.specs.Layout.{idOf};
 ghost use Rattle.records.specs.Records.{hasPriority, isOpen, sizeAllowed};
-ghost use Rattle.records.specs.Status.{INVALID-ID, ILLEGAL-ON-REMOTE-OBJECT, verdictStatus};
-ghost use Rattle.specification.specs.Answer.{_⇒_, firstStatus};
-ghost use Rattle.specification.specs.Lookup.{usableQueue, isForeign};
+ghost use Rattle.records.specs.Status.{verdictStatus};
+ghost use Rattle.specification.specs.Answer.{firstStatus};
+ghost use Rattle.specification.specs.Lookup.{ownerTests, usableQueue, isForeign};
 use records::queue::QueueRecord;
 use records::shares::share_of_slot;
 use records::shares::share_of_task;
@@ -40,7 +39,7 @@ pub fn is_foreign(caller: usize, slot: usize) -> bool
 // "2, 12": the first refusal of a call that only the queue's own share may make.
 pub fn owner_refusal(q: QueueRecord, caller: usize, id: u32) -> Verdict
     requires { ⌜ caller < 32 ⌝ }
-    ensures { λ r. ⌜ verdictStatus r ≡ firstStatus ((not (usableQueue q caller id) ⇒ INVALID-ID) ∷ (isForeign caller (slotOf id) ⇒ ILLEGAL-ON-REMOTE-OBJECT) ∷ []) ⌝ }
+    ensures { λ r. ⌜ verdictStatus r ≡ firstStatus (ownerTests q caller id) ⌝ }
 {
     if !usable(q, caller, id) {
         return Verdict::Refused(RefusalStatus::InvalidId);

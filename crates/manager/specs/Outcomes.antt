@@ -3,8 +3,9 @@ use Rattle.ranks.specs.Prelude.{ℕ, _≡_, Bool, true, false, not, List, [], _
 use Rattle.ranks.specs.Lists.{if_then_else_}
 use Rattle.records.specs.Records.{State}
 use Rattle.records.specs.Bytes.{Tables, decodeQueues, decode, rightLengths}
-use Rattle.records.specs.Status.{SUCCESSFUL, WAITING, CORRUPT, BAD-CALLER, BAD-SHAPE, statusNumber}
-use Rattle.specification.specs.Answer.{Answer, Outcome, Refusal, refuseIfAny, _⇒_}
+use Rattle.records.specs.Status.{SUCCESSFUL, WAITING, CORRUPT, BAD-CALLER, BAD-SHAPE, statusNumber, verdictStatus}
+use Rattle.records.specs.declared.status.Verdict.{Verdict}
+use Rattle.specification.specs.Answer.{Answer, Outcome, Refusal, refuseIfAny, firstStatus, _⇒_}
 use Rattle.specification.specs.Call.{Directive, call}
 use Rattle.specification.specs.Sound.{sound}
 use Rattle.specification.specs.Step.{badCaller, directiveRefusals, effect, encoded}
@@ -38,6 +39,14 @@ tableRefusals t = (not (rightLengths t) ⇒ BAD-SHAPE) ∷ (not (sound (decode t
 abbrev pub callRefusals : Tables → (caller : ℕ) → List Refusal
 callRefusals t caller =
     (not (rightLengths t) ⇒ BAD-SHAPE) ∷ (not (sound (decode t)) ⇒ CORRUPT) ∷ (badCaller (decode t) caller ⇒ BAD-CALLER) ∷ []
+
+-- the tables' own tests, 16 and 10, gave the verdict
+abbrev pub Tested : Tables → Verdict → Type 0
+Tested t verdict = verdictStatus verdict ≡ firstStatus (tableRefusals t)
+
+-- the tests 16, 10 and 11 gave it
+abbrev pub CallTested : Tables → (caller : ℕ) → Verdict → Type 0
+CallTested t caller verdict = verdictStatus verdict ≡ firstStatus (callRefusals t caller)
 
 -- The outcome of a call that passed them.
 abbrev pub accepted : Tables → (caller : ℕ) → Directive → Outcome Tables

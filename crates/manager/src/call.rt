@@ -2,10 +2,8 @@
 ghost use mathlib.Core.Path.{_≡_};
 ghost use lib.ListN.{length};
 ghost use Rattle.records.specs.Bytes.{decode, rightLengths};
-ghost use Rattle.records.specs.Status.{verdictStatus};
-ghost use Rattle.specification.specs.Answer.{firstStatus};
 ghost use Rattle.specification.specs.Step.{badCaller};
-ghost use Rattle.manager.specs.Outcomes.{tables, tableRefusals, callRefusals};
+ghost use Rattle.manager.specs.Outcomes.{tables, Tested, CallTested};
 use records::status::RefusalStatus;
 use records::status::Verdict;
 use records::task::read_head;
@@ -31,7 +29,7 @@ pub fn bad_caller(queues: &[u8], pool: &[u8], tasks: &[u8], caller: u32) -> bool
 
 // The first test of the tables that they fail, 16 or 10, if any.
 pub fn table_refusal(queues: &[u8], pool: &[u8], tasks: &[u8]) -> Verdict
-    ensures { λ r. ⌜ verdictStatus r ≡ firstStatus (tableRefusals (tables (now (queues .entry)) (now (pool .entry)) (now (tasks .entry)))) ⌝ }
+    ensures { λ r. ⌜ Tested (tables (now (queues .entry)) (now (pool .entry)) (now (tasks .entry))) r ⌝ }
 {
     if !right_lengths(queues, pool, tasks) {
         return Verdict::Refused(RefusalStatus::BadShape);
@@ -50,8 +48,8 @@ pub fn caller_refusal(
     caller: u32,
     verdict: Verdict,
 ) -> Verdict
-    requires { ⌜ verdictStatus verdict ≡ firstStatus (tableRefusals (tables (now queues) (now pool) (now tasks))) ⌝ }
-    ensures { λ r. ⌜ verdictStatus r ≡ firstStatus (callRefusals (tables (now (queues .entry)) (now (pool .entry)) (now (tasks .entry))) caller) ⌝ }
+    requires { ⌜ Tested (tables (now queues) (now pool) (now tasks)) verdict ⌝ }
+    ensures { λ r. ⌜ CallTested (tables (now (queues .entry)) (now (pool .entry)) (now (tasks .entry))) caller r ⌝ }
 {
     if let Verdict::Refused(status) = verdict {
         return Verdict::Refused(status);
@@ -64,7 +62,7 @@ pub fn caller_refusal(
 
 // "Order: 16, 10, 11, then as each directive lists."
 pub fn call_refusal(queues: &[u8], pool: &[u8], tasks: &[u8], caller: u32) -> Verdict
-    ensures { λ r. ⌜ verdictStatus r ≡ firstStatus (callRefusals (tables (now (queues .entry)) (now (pool .entry)) (now (tasks .entry))) caller) ⌝ }
+    ensures { λ r. ⌜ CallTested (tables (now (queues .entry)) (now (pool .entry)) (now (tasks .entry))) caller r ⌝ }
 {
     let verdict = table_refusal(queues, pool, tasks);
     caller_refusal(queues, pool, tasks, caller, verdict)

@@ -7,14 +7,12 @@ ghost use lib.ListN.{length};
 ghost use Rattle.ranks.specs.Lists.{mask};
 ghost use Rattle.ranks.specs.Table.{slice};
 ghost use Rattle.records.specs.Bytes.{decodeTask, decodeTasks, decode, rightLengths};
-ghost use Rattle.records.specs.Status.{verdictStatus};
 ghost use Rattle.records.specs.TaskHeads.{headOf};
-ghost use Rattle.specification.specs.Answer.{firstStatus};
 ghost use Rattle.specification.specs.Call.{tick};
 ghost use Rattle.specification.specs.Sound.{sound};
 ghost use Rattle.specification.specs.Step.{effect, encoded, step};
 ghost use Rattle.specification.specs.Tick.{isLastTick, isTicking, expiring, tickTask};
-ghost use Rattle.manager.specs.Outcomes.{tables, outcomeOf, tableRefusals};
+ghost use Rattle.manager.specs.Outcomes.{tables, outcomeOf, Tested};
 ghost use Rattle.manager.specs.Ticks.{NamesSlot, countedDown};
 use crate::answer::Answer;
 use crate::call::table_refusal;
@@ -101,7 +99,7 @@ pub fn tick(queues: &mut [u8], pool: &[u8], tasks: &mut [u8]) -> Answer
 
 // The tick, on tables whose own tests gave this verdict.
 pub fn tick_after(queues: &mut [u8], pool: &[u8], tasks: &mut [u8], verdict: Verdict) -> Answer
-    requires { ⌜ verdictStatus verdict ≡ firstStatus (tableRefusals (tables (now queues) (now pool) (now tasks))) ⌝ }
+    requires { ⌜ Tested (tables (now queues) (now pool) (now tasks)) verdict ⌝ }
     ensures { λ r. ⌜ outcomeOf r (tables (now (queues .exit)) (now (pool .entry)) (now (tasks .exit)))
         ≡ step (tables (now (queues .entry)) (now (pool .entry)) (now (tasks .entry))) tick ⌝ }
 {

@@ -1,13 +1,10 @@
 // Broadcast.
 ghost use mathlib.Core.Path.{_≡_};
-ghost use mathlib.Core.Bool.{not};
-ghost use mathlib.Core.List.{[], _∷_};
 ghost use Prim.Native.Nat.{_<_};
-ghost use Rattle.records.specs.Records.{sizeAllowed};
-ghost use Rattle.records.specs.Status.{INVALID-ID, INVALID-SIZE, verdictStatus};
-ghost use Rattle.specification.specs.Answer.{_⇒_, firstStatus};
+ghost use Rattle.records.specs.Status.{verdictStatus};
+ghost use Rattle.specification.specs.Answer.{firstStatus};
+ghost use Rattle.specification.specs.Broadcast.{broadcastTests};
 ghost use Rattle.specification.specs.Call.{call, onQueue, broadcast};
-ghost use Rattle.specification.specs.Lookup.{usableQueue};
 ghost use Rattle.specification.specs.Step.{step};
 ghost use Rattle.manager.specs.Outcomes.{tables, outcomeOf, Callable, accepted};
 use crate::answer::Answer;
@@ -25,7 +22,7 @@ use records::status::Verdict;
 // The first refusal, if any.
 fn refusal(q: QueueRecord, caller: usize, id: u32, size: usize) -> Verdict
     requires { ⌜ caller < 32 ⌝ }
-    ensures { λ r. ⌜ verdictStatus r ≡ firstStatus ((not (usableQueue q caller id) ⇒ INVALID-ID) ∷ (not (sizeAllowed q size) ⇒ INVALID-SIZE) ∷ []) ⌝ }
+    ensures { λ r. ⌜ verdictStatus r ≡ firstStatus (broadcastTests q caller id size) ⌝ }
 {
     if !usable(q, caller, id) {
         return Verdict::Refused(RefusalStatus::InvalidId);

@@ -1,13 +1,10 @@
 // Receive.
 ghost use mathlib.Core.Path.{_≡_};
-ghost use mathlib.Core.Bool.{_&&_, not};
-ghost use mathlib.Core.List.{[], _∷_};
 ghost use Prim.Native.Nat.{_<_};
-ghost use lib.Dec.{eqb, leb, ltb};
-ghost use Rattle.records.specs.Status.{INVALID-ID, INVALID-OPTION, UNSATISFIED, verdictStatus};
-ghost use Rattle.specification.specs.Answer.{_⇒_, firstStatus};
+ghost use Rattle.records.specs.Status.{verdictStatus};
+ghost use Rattle.specification.specs.Answer.{firstStatus};
+ghost use Rattle.specification.specs.Receive.{receiveTests};
 ghost use Rattle.specification.specs.Call.{call, onQueue, receive};
-ghost use Rattle.specification.specs.Lookup.{usableQueue};
 ghost use Rattle.specification.specs.Step.{step};
 ghost use Rattle.manager.specs.Outcomes.{tables, outcomeOf, Callable, accepted};
 use crate::answer::Answer;
@@ -29,8 +26,7 @@ use records::status::Verdict;
 // The first refusal, if any. The message at rank 0 is in buffer b, if there is one.
 fn refusal(q: QueueRecord, caller: usize, id: u32, option: u32, b: usize) -> Verdict
     requires { ⌜ caller < 32 ⌝ }
-    ensures { λ r. ⌜ verdictStatus r ≡ firstStatus
-        ((not (usableQueue q caller id) ⇒ INVALID-ID) ∷ (ltb 1 option ⇒ INVALID-OPTION) ∷ (leb 64 b && eqb option 1 ⇒ UNSATISFIED) ∷ []) ⌝ }
+    ensures { λ r. ⌜ verdictStatus r ≡ firstStatus (receiveTests q caller id option b) ⌝ }
 {
     if !usable(q, caller, id) {
         return Verdict::Refused(RefusalStatus::InvalidId);

@@ -1,16 +1,11 @@
 // What send and urgent share: the waiter at rank 0 gets the message, or it is held in a buffer.
 ghost use mathlib.Core.Path.{_≡_};
-ghost use mathlib.Core.Bool.{_&&_, not};
-ghost use mathlib.Core.List.{[], _∷_};
 ghost use Prim.Native.Nat.{_<_};
-ghost use lib.Dec.{leb};
 ghost use Rattle.ranks.specs.Lists.{if_then_else_};
-ghost use Rattle.records.specs.Records.{sizeAllowed};
-ghost use Rattle.records.specs.Status.{INVALID-ID, INVALID-SIZE, TOO-MANY, NO-BUFFER, verdictStatus};
-ghost use Rattle.specification.specs.Answer.{_⇒_, firstStatus};
+ghost use Rattle.records.specs.Status.{verdictStatus};
+ghost use Rattle.specification.specs.Answer.{firstStatus};
+ghost use Rattle.specification.specs.Submit.{submitTests};
 ghost use Rattle.specification.specs.Call.{onQueue, send, urgent};
-ghost use Rattle.specification.specs.Lookup.{usableQueue};
-ghost use Rattle.specification.specs.Submit.{isFull};
 ghost use Rattle.manager.specs.Outcomes.{tables, outcomeOf, Callable, accepted};
 use crate::answer::Answer;
 use coremsg::lookup::bad_size;
@@ -31,9 +26,7 @@ use records::status::Verdict;
 // The first refusal, if any. Task t is the first waiter, and b the buffer that would be used.
 fn refusal(q: QueueRecord, caller: usize, id: u32, size: usize, t: usize, b: usize) -> Verdict
     requires { ⌜ caller < 32 ⌝ }
-    ensures { λ r. ⌜ verdictStatus r ≡ firstStatus
-        ((not (usableQueue q caller id) ⇒ INVALID-ID) ∷ (not (sizeAllowed q size) ⇒ INVALID-SIZE)
-        ∷ (leb 32 t && isFull q ⇒ TOO-MANY) ∷ (leb 32 t && leb 64 b ⇒ NO-BUFFER) ∷ []) ⌝ }
+    ensures { λ r. ⌜ verdictStatus r ≡ firstStatus (submitTests q caller id size t b) ⌝ }
 {
     if !usable(q, caller, id) {
         return Verdict::Refused(RefusalStatus::InvalidId);

@@ -3,12 +3,12 @@ use Rattle.ranks.specs.Prelude.{ℕ, _+_, _*_, _/_, _≤_, _<_, _≡_, Bool, tr
 use Rattle.ranks.specs.Lists.{if_then_else_}
 use Rattle.ranks.specs.Table.{byte, slice, records, spliced}
 use Rattle.records.specs.Bytes.{Tables}
-use Rattle.records.specs.Status.{BAD-SHAPE, verdictStatus}
+use Rattle.records.specs.Status.{BAD-SHAPE}
 use Rattle.records.specs.declared.status.Verdict.{Verdict}
-use Rattle.specification.specs.Answer.{Answer, Outcome, refuse, firstStatus}
+use Rattle.specification.specs.Answer.{Answer, Outcome, refuse}
 use Rattle.specification.specs.Call.{Directive, Call, create, ident, onQueue, delete, send, urgent, broadcast, receive, getNumberPending, flush, call, tick}
 use Rattle.specification.specs.Step.{step}
-use Rattle.manager.specs.Outcomes.{tableRefusals}
+use Rattle.manager.specs.Outcomes.{Tested}
 use Rattle.calllog.specs.CallLog.{recordWidth, readRecord, placeAfter, messageOf, answerBytes}
 use Rattle.calllog.specs.declared.call.Directive.{Directive as LogDirective}
 use Rattle.calllog.specs.declared.call.Directive.the-variants.{Create, Ident, Delete, Send, Urgent, Broadcast, Receive, Pending, Flush}
@@ -110,10 +110,6 @@ replayedInto t log lent =
     if leb (countOf (length log) * 16) (length lent) then intoLent true (replayedFront t log lent) else intoLent false (record { answers = lent; after = t })
 
 -- ---- For the code
-
--- the tables' own tests, 16 and 10, gave the verdict
-abbrev pub Tested : Tables → Verdict → Type 0
-Tested t verdict = verdictStatus verdict ≡ firstStatus (tableRefusals t)
 
 -- where the next record of a log is replayed: its place is not at the end, its answer record has room, and the tables' own tests gave the verdict
 pub record NextRecord (t : Tables) (verdict : Verdict) (log : List ℕ) (at : ℕ) (lent : List ℕ) (to : ℕ) : Type 0 where

@@ -1,10 +1,8 @@
 // The answer to what a reader found in a log.
 ghost use mathlib.Core.Path.{_≡_};
-ghost use Rattle.records.specs.Status.{verdictStatus};
-ghost use Rattle.specification.specs.Answer.{firstStatus};
 ghost use Rattle.specification.specs.Call.{call};
 ghost use Rattle.specification.specs.Step.{step};
-ghost use Rattle.manager.specs.Outcomes.{answerOf, tables, outcomeOf, tableRefusals};
+ghost use Rattle.manager.specs.Outcomes.{answerOf, tables, outcomeOf, Tested};
 ghost use Rattle.runs.specs.Replay.{directiveOf, callOf, outcomeFor, answerRecord};
 use crate::perform::perform;
 use crate::perform::word_of;
@@ -31,7 +29,7 @@ fn answer_directive(
     field: &[u8],
     verdict: Verdict,
 ) -> Answer
-    requires { ⌜ verdictStatus verdict ≡ firstStatus (tableRefusals (tables (now queues) (now pool) (now tasks))) ⌝ }
+    requires { ⌜ Tested (tables (now queues) (now pool) (now tasks)) verdict ⌝ }
     ensures { λ r. ⌜ outcomeOf r (tables (now (queues .exit)) (now (pool .exit)) (now (tasks .exit)))
         ≡ step (tables (now (queues .entry)) (now (pool .entry)) (now (tasks .entry))) (call caller (directiveOf directive (now (field .entry)))) ⌝ }
 {
@@ -51,7 +49,7 @@ fn answer_call(
     field: &[u8],
     verdict: Verdict,
 ) -> Answer
-    requires { ⌜ verdictStatus verdict ≡ firstStatus (tableRefusals (tables (now queues) (now pool) (now tasks))) ⌝ }
+    requires { ⌜ Tested (tables (now queues) (now pool) (now tasks)) verdict ⌝ }
     ensures { λ r. ⌜ outcomeOf r (tables (now (queues .exit)) (now (pool .exit)) (now (tasks .exit)))
         ≡ step (tables (now (queues .entry)) (now (pool .entry)) (now (tasks .entry))) (callOf logged (now (field .entry))) ⌝ }
 {
@@ -78,7 +76,7 @@ pub fn answer(
     field: &[u8],
     verdict: Verdict,
 ) -> Answer
-    requires { ⌜ verdictStatus verdict ≡ firstStatus (tableRefusals (tables (now queues) (now pool) (now tasks))) ⌝ }
+    requires { ⌜ Tested (tables (now queues) (now pool) (now tasks)) verdict ⌝ }
     ensures { λ r. ⌜ outcomeOf r (tables (now (queues .exit)) (now (pool .exit)) (now (tasks .exit)))
         ≡ outcomeFor (tables (now (queues .entry)) (now (pool .entry)) (now (tasks .entry))) found (now (field .entry)) ⌝ }
 {

@@ -2,9 +2,9 @@
 ghost use mathlib.Core.Path.{_≡_};
 ghost use Prim.Native.Nat.{_*_, _≤_, _<_};
 ghost use lib.ListN.{length};
-ghost use Rattle.manager.specs.Outcomes.{tables};
+ghost use Rattle.manager.specs.Outcomes.{tables, Tested};
 ghost use Rattle.calllog.specs.CallLog.{messageOf};
-ghost use Rattle.runs.specs.Replay.{Tested, NextRecord, replayFound, replayedAt, countOf, replayedFront, replayedInto};
+ghost use Rattle.runs.specs.Replay.{NextRecord, replayFound, replayedAt, countOf, replayedFront, replayedInto};
 use crate::answer::answer;
 use crate::answer::answer_record;
 use calllog::call::LogResult;

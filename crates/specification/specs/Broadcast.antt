@@ -1,11 +1,11 @@
 -- Document 01: "Broadcast".
-use Rattle.ranks.specs.Prelude.{ℕ, List, [], _∷_}
+use Rattle.ranks.specs.Prelude.{ℕ, not, List, [], _∷_}
 use Rattle.ranks.specs.Lists.{countTrue, mask}
-use Rattle.records.specs.Records.{State}
+use Rattle.records.specs.Records.{Queue, State, sizeAllowed}
 use Rattle.records.specs.Changes.{changeAt, withWaiters, withMessage}
-use Rattle.records.specs.Status.{SUCCESSFUL, INVALID-SIZE}
+use Rattle.records.specs.Status.{SUCCESSFUL, INVALID-ID, INVALID-SIZE}
 use Rattle.specification.specs.Answer.{Outcome, outcome, Refusal, _⇒_}
-use Rattle.specification.specs.Lookup.{waitersOf, withoutWaiters}
+use Rattle.specification.specs.Lookup.{usableQueue, waitersOf, withoutWaiters}
 use Rattle.specification.specs.Submit.{badSize}
 
 -- "2, 3"
@@ -21,3 +21,7 @@ effect s slot message =
       pool = s .pool;
       tasks = withoutWaiters slot (withMessage message) (s .tasks);
     })
+
+-- ---- For the code: the tests by the queue record read
+abbrev pub broadcastTests : Queue → (caller id size : ℕ) → List Refusal
+broadcastTests q caller id size = (not (usableQueue q caller id) ⇒ INVALID-ID) ∷ (not (sizeAllowed q size) ⇒ INVALID-SIZE) ∷ []

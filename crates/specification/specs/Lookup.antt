@@ -7,6 +7,8 @@ use Rattle.records.specs.Split.{shareOfSlot, shareOfTask}
 use Rattle.records.specs.Layout.{slotOf, generationOf, bufferCount, taskCount}
 use Rattle.records.specs.Records.{Queue, Buffer, Task, State, isLive, isOpen, freeBuffer, queueAt}
 use Rattle.records.specs.Changes.{changeAt, withWaiters, takeOutTask}
+use Rattle.records.specs.Status.{INVALID-ID, ILLEGAL-ON-REMOTE-OBJECT}
+use Rattle.specification.specs.Answer.{Refusal, _⇒_}
 
 -- "An id is usable if its slot (id mod 16) is live, id div 16 is its generation, and the slot is in the caller's share or OPEN."
 -- The queue in the id's slot is `q`.
@@ -24,6 +26,10 @@ usable s caller id = usableQueue (queueAt s (slotOf id)) caller id
 -- the slot is of another share than the caller
 unfoldable pub isForeign : (caller slot : ℕ) → Bool
 isForeign caller slot = not (eqb (shareOfSlot slot) (shareOfTask caller))
+
+-- "2, 12", for the queue `q` in the id's slot: what only the queue's own share may do
+abbrev pub ownerTests : Queue → (caller id : ℕ) → List Refusal
+ownerTests q caller id = (not (usableQueue q caller id) ⇒ INVALID-ID) ∷ (isForeign caller (slotOf id) ⇒ ILLEGAL-ON-REMOTE-OBJECT) ∷ []
 
 -- the waiter at rank 0 of the queue in a slot, or 32
 unfoldable pub firstWaiter : State → (slot : ℕ) → ℕ

@@ -1,12 +1,13 @@
 -- Document 01: "Receive (option 0 wait, 1 no wait; ticks)".
-use Rattle.ranks.specs.Prelude.{ℕ, suc, _-_, true, false, _&&_, not, List, [], _∷_, eqb, ltb}
+use Rattle.ranks.specs.Prelude.{ℕ, suc, _-_, true, false, _&&_, not, List, [], _∷_, eqb, leb, ltb}
 use Rattle.ranks.specs.Lists.{if_then_else_, mapWithIndex, minimum}
 use Rattle.ranks.specs.Position.{positionAt, inQueue}
+use Rattle.records.specs.Layout.{bufferCount}
 use Rattle.records.specs.Records.{Queue, Task, State, hasPriority, messageIn, freeBuffer, queueAt, bufferAt, taskAt}
 use Rattle.records.specs.Changes.{changeAt, withPending, withWaiters, withMessage, waitingAt, takeOutBuffer, insertTask}
-use Rattle.records.specs.Status.{SUCCESSFUL, UNSATISFIED, WAITING, INVALID-OPTION}
+use Rattle.records.specs.Status.{SUCCESSFUL, INVALID-ID, UNSATISFIED, WAITING, INVALID-OPTION}
 use Rattle.specification.specs.Answer.{Outcome, outcome, Refusal, _⇒_}
-use Rattle.specification.specs.Lookup.{firstMessage, hasMessage}
+use Rattle.specification.specs.Lookup.{usableQueue, firstMessage, hasMessage}
 
 -- "2, 15 (option above 1). With a message pending [...]. Else option 1 gives 6."
 unfoldable pub refusals : State → (slot option : ℕ) → List Refusal
@@ -51,3 +52,8 @@ waiting s caller slot rank ticks =
 unfoldable pub effect : State → (caller slot ticks : ℕ) → Outcome State
 effect s caller slot ticks =
     if hasMessage s slot then received s caller slot (firstMessage s slot) else waiting s caller slot (waitRank s caller slot) ticks
+
+-- ---- For the code: the tests by the queue record read, where the message at rank 0 is in buffer `b`
+abbrev pub receiveTests : Queue → (caller id option b : ℕ) → List Refusal
+receiveTests q caller id option b =
+    (not (usableQueue q caller id) ⇒ INVALID-ID) ∷ (ltb 1 option ⇒ INVALID-OPTION) ∷ (leb bufferCount b && eqb option 1 ⇒ UNSATISFIED) ∷ []

@@ -4,12 +4,12 @@ use Rattle.ranks.specs.Prelude.{ℕ, suc, Bool, true, false, _&&_, not, List, [
 use Rattle.ranks.specs.Lists.{if_then_else_, mapWithIndex, findIndex, mask}
 use Rattle.ranks.specs.Position.{positionAt}
 use Rattle.records.specs.Split.{shareOfSlot, shareOfBuffer}
-use Rattle.records.specs.Layout.{bufferCount}
+use Rattle.records.specs.Layout.{bufferCount, taskCount}
 use Rattle.records.specs.Records.{Queue, Buffer, State, sizeAllowed, queueAt}
 use Rattle.records.specs.Changes.{changeAt, withPending, messageBuffer, withMessage, insertBuffer}
-use Rattle.records.specs.Status.{SUCCESSFUL, INVALID-SIZE, TOO-MANY, NO-BUFFER}
+use Rattle.records.specs.Status.{SUCCESSFUL, INVALID-ID, INVALID-SIZE, TOO-MANY, NO-BUFFER}
 use Rattle.specification.specs.Answer.{Outcome, outcome, Refusal, _⇒_}
-use Rattle.specification.specs.Lookup.{firstWaiter, hasWaiter, leave}
+use Rattle.specification.specs.Lookup.{usableQueue, firstWaiter, hasWaiter, leave}
 
 -- "a message's size is the length of the bytes lent"
 abbrev pub badSize : State → (slot : ℕ) (message : List ℕ) → Bool
@@ -54,3 +54,12 @@ effect s slot rank message =
     if hasWaiter s slot
     then delivered s (firstWaiter s slot) slot message
     else enqueued s (freeBufferOf s (shareOfSlot slot)) slot rank message
+
+-- ---- For the code: the tests by the queue record read, where task `t` is the first waiter and `b` the buffer that would be used
+abbrev pub submitTests : Queue → (caller id size t b : ℕ) → List Refusal
+submitTests q caller id size t b =
+    (not (usableQueue q caller id) ⇒ INVALID-ID)
+    ∷ (not (sizeAllowed q size) ⇒ INVALID-SIZE)
+    ∷ (leb taskCount t && isFull q ⇒ TOO-MANY)
+    ∷ (leb taskCount t && leb bufferCount b ⇒ NO-BUFFER)
+    ∷ []

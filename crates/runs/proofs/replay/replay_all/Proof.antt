@@ -5,12 +5,11 @@ use mathlib.Core.Path.{_≡_, refl, sym, ap, _∙_}
 use mathlib.Core.List.{List}
 use lib.ListN.{length}
 use Rattle.ranks.specs.Table.{slice}
-use Rattle.records.specs.Status.{verdictStatus}
 use Rattle.records.specs.declared.status.Verdict.{Verdict}
 use Rattle.specification.specs.Answer.{firstStatus}
-use Rattle.manager.specs.Outcomes.{tables, tableRefusals}
+use Rattle.manager.specs.Outcomes.{tables, tableRefusals, Tested}
 use Rattle.manager.proofs.Outcomes.{Slice}
-use Rattle.runs.specs.Replay.{Tested, ReplayedAt, replayedAt}
+use Rattle.runs.specs.Replay.{ReplayedAt, replayedAt}
 use Rattle.runs.proofs.Replays.{ReplayedTo, none-replayed, room-for-one, one-more-replayed, all-replayed, next-after}
 use Rattle.runs.proofs.TableStatus.{sliced, verdict-stays}
 use borrow.Author.Needs.{needs}

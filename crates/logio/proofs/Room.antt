@@ -13,7 +13,7 @@ use Rattle.ranks.specs.Table.{spliced}
 use Rattle.ranks.proofs.Table.{length-records}
 use Rattle.records.specs.Bytes.{Tables, toLittleEndian}
 use Rattle.calllog.specs.CallLog.{answerBytes}
-use Rattle.runs.specs.Replay.{Replayed, ReplayedInto, replayRecord, replayRecords, countOf, recordsOf, replayed, intoLent, replayedFront, replayedInto}
+use Rattle.runs.specs.Replay.{Replayed, ReplayedInto, replayFound, replayRecord, replayRecords, countOf, recordsOf, replayed, intoLent, replayedFront, replayedInto}
 
 -- a part of a log has no more records
 pub no-more : {n m : ℕ} → n ≤ m → countOf n ≤ countOf m
@@ -30,7 +30,7 @@ replayed-all t log lent e h =
 
 -- the answer records have 16 bytes each
 answers-size : (t : Tables) (rs : List (List ℕ)) → length (replayRecords t rs .answers) ≡ length rs * 16
-unfolding replayRecords replayRecord answerBytes toLittleEndian
+unfolding replayRecords replayRecord replayFound answerBytes toLittleEndian
 answers-size t [] = refl
 answers-size t (r ∷ rs) =
     let rest = answers-size (replayRecord t r .after) rs in

@@ -57,7 +57,7 @@ pub fn bad_size(q: QueueRecord, size: usize) -> bool
     !((1 <= size) & (size <= q.maxSize as usize))
 }
 
-// "The id is generation * 16 + slot."
+// "An id is generation x 16 + slot."
 pub fn id_of(generation: u16, slot: usize) -> u32
     requires { ⌜ slot < 16 ⌝ }
     ensures { λ r. ⌜ r ≡ idOf generation slot ⌝ }

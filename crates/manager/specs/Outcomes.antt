@@ -1,8 +1,6 @@
 -- The code's answers by the paper's numbers, and what the code of a directive promises.
-use Rattle.ranks.specs.Prelude.{ℕ, _≡_, Bool, true, false, not, List, [], _∷_}
-use Rattle.ranks.specs.Lists.{if_then_else_}
-use Rattle.records.specs.Records.{State}
-use Rattle.records.specs.Bytes.{Tables, decodeQueues, decode, rightLengths}
+use Rattle.ranks.specs.Prelude.{ℕ, _≡_, true, false, not, List, [], _∷_, _++_}
+use Rattle.records.specs.Bytes.{Tables, decode, rightLengths}
 use Rattle.records.specs.Status.{SUCCESSFUL, WAITING, CORRUPT, BAD-CALLER, BAD-SHAPE, statusNumber, verdictStatus}
 use Rattle.records.specs.declared.status.Verdict.{Verdict}
 use Rattle.specification.specs.Answer.{Answer, Outcome, Refusal, refuseIfAny, firstStatus, _⇒_}
@@ -37,8 +35,7 @@ tableRefusals t = (not (rightLengths t) ⇒ BAD-SHAPE) ∷ (not (sound (decode t
 
 -- "Order: 16, 10, 11, then as each directive lists."
 abbrev pub callRefusals : Tables → (caller : ℕ) → List Refusal
-callRefusals t caller =
-    (not (rightLengths t) ⇒ BAD-SHAPE) ∷ (not (sound (decode t)) ⇒ CORRUPT) ∷ (badCaller (decode t) caller ⇒ BAD-CALLER) ∷ []
+callRefusals t caller = tableRefusals t ++ (badCaller (decode t) caller ⇒ BAD-CALLER) ∷ []
 
 -- the tables' own tests, 16 and 10, gave the verdict
 abbrev pub Tested : Tables → Verdict → Type 0

@@ -3,7 +3,7 @@ ghost use mathlib.Core.Path.{_≡_};
 ghost use Prim.Native.Nat.{suc, _*_, _<_};
 ghost use lib.ListN.{length};
 ghost use mathlib.Core.Bool.{true, not};
-ghost use Rattle.ranks.specs.Lists.{within, mapWithIndex, firstTrue, every};
+ghost use Rattle.ranks.specs.Lists.{within, findIndex, every};
 ghost use Rattle.ranks.specs.Table.{slice};
 ghost use Rattle.records.specs.Bytes.{decodeQueue, decodeQueues};
 ghost use Rattle.specification.specs.Call.{call, create};
@@ -12,7 +12,7 @@ ghost use Rattle.specification.specs.Step.{step};
 ghost use Rattle.specification.specs.Create.{isFreeSlot, newQueue, refusals};
 ghost use Rattle.records.specs.Layout.{idOf};
 ghost use Rattle.records.specs.Status.{verdictStatus};
-ghost use Rattle.records.specs.Changes.{atIndex};
+ghost use Rattle.records.specs.Changes.{changeAt};
 ghost use Rattle.manager.specs.declared.answer.Answer.the-variants.{Successful};
 ghost use Rattle.specification.specs.Answer.{firstStatus};
 ghost use Rattle.soundness.specs.Parts.{onlyQueues};
@@ -41,7 +41,7 @@ fn is_free_slot(queues: &[u8], share: usize, slot: usize) -> bool
 // The lowest such slot, or 16.
 fn free_slot(queues: &[u8], share: usize) -> usize
     requires { ⌜ length (now queues) ≡ 256 ⌝ }
-    ensures { λ r. ⌜ r ≡ firstTrue (mapWithIndex (isFreeSlot share) (decodeQueues (now (queues .entry)))) ⌝ }
+    ensures { λ r. ⌜ r ≡ findIndex (isFreeSlot share) (decodeQueues (now (queues .entry))) ⌝ }
 {
     let mut i = 0;
     while i < 16 {
@@ -69,7 +69,7 @@ fn refusal(
     size: u32,
     attributes: u32,
 ) -> Verdict
-    requires { ⌜ (length (now queues) ≡ 256) × ((share < 4) × ((slot ≡ firstTrue (mapWithIndex (isFreeSlot share) (decodeQueues (now queues)))) × (every (λ i q. soundQueue q) (decodeQueues (now queues)) ≡ true))) ⌝ }
+    requires { ⌜ (length (now queues) ≡ 256) × ((share < 4) × ((slot ≡ findIndex (isFreeSlot share) (decodeQueues (now queues))) × (every (λ i q. soundQueue q) (decodeQueues (now queues)) ≡ true))) ⌝ }
     ensures { λ r. ⌜ verdictStatus r ≡ firstStatus (refusals (onlyQueues (now (queues .entry))) share name limit size attributes) ⌝ }
 {
     if name == 0 {
@@ -104,7 +104,7 @@ fn create_in(
 ) -> Answer
     requires { ⌜ (length (now queues) ≡ 256) × ((slot < 16) × (decodeQueue (slice (slot * 16) 16 (now queues)) .generation < 65535)) ⌝ }
     ensures { λ r. ⌜ (r ≡ Successful (idOf (suc (decodeQueue (slice (slot * 16) 16 (now (queues .entry))) .generation)) slot) 0)
-        × (decodeQueues (now (queues .exit)) ≡ mapWithIndex (atIndex slot (newQueue name limit size attributes)) (decodeQueues (now (queues .entry)))) ⌝ }
+        × (decodeQueues (now (queues .exit)) ≡ changeAt slot (newQueue name limit size attributes) (decodeQueues (now (queues .entry)))) ⌝ }
 {
     let q = read_queue(queues, slot);
     let generation = q.generation + 1;

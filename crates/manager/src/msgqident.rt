@@ -2,7 +2,7 @@
 ghost use mathlib.Core.Path.{_≡_};
 ghost use Prim.Native.Nat.{_*_, _<_};
 ghost use lib.ListN.{length};
-ghost use Rattle.ranks.specs.Lists.{mapWithIndex, firstTrue};
+ghost use Rattle.ranks.specs.Lists.{findIndex};
 ghost use Rattle.ranks.specs.Table.{slice};
 ghost use Rattle.records.specs.Bytes.{decodeQueue, decodeQueues};
 ghost use Rattle.specification.specs.Call.{call, ident};
@@ -34,7 +34,7 @@ fn is_named(queues: &[u8], caller: usize, name: u32, share: usize, slot: usize) 
 // The lowest such slot, or 16.
 fn named(queues: &[u8], caller: usize, name: u32, share: usize) -> usize
     requires { ⌜ (length (now queues) ≡ 256) × (caller < 32) ⌝ }
-    ensures { λ r. ⌜ r ≡ firstTrue (mapWithIndex (isNamed caller name share) (decodeQueues (now (queues .entry)))) ⌝ }
+    ensures { λ r. ⌜ r ≡ findIndex (isNamed caller name share) (decodeQueues (now (queues .entry))) ⌝ }
 {
     let mut i = 0;
     while i < 16 {

@@ -1,6 +1,6 @@
 pub mod Cases
 pub mod Orders
 pub mod Ranks
+pub mod RecordTests
 pub mod Searched
-pub mod Tables
 pub mod Whole

@@ -21,7 +21,7 @@ use Rattle.records.specs.Bytes.{decodeTask, decodeTasks}
 use Rattle.records.proofs.Writing.{length-decoded}
 use Rattle.specification.specs.Sound.{byPriority}
 use Rattle.soundness.specs.Parts.{onlyTasks, taskPositions, queueRanked, queueInOrder, OneAtRank, PrioritiesAtRanks}
-use Rattle.soundness.proofs.Tables.{task-positions}
+use Rattle.soundness.proofs.RecordTests.{task-positions}
 
 -- a queue has at most as many ranks as there are records
 pub ranks-fit : (slot k : ℕ) (ps : List Position) → ranked slot k ps ≡ true → k ≤ length ps

@@ -13,7 +13,7 @@ use Rattle.records.specs.Bytes.{decodeQueues, decodePool, decodeTasks, decode}
 use Rattle.specification.specs.Sound.{soundQueue, limits, soundLimits, soundBuffer, soundRanks, byPriority, soundTask, sound}
 use Rattle.soundness.specs.Parts.{onlyQueues, onlyTasks, poolPositions, taskPositions, queueRanked, queueInOrder}
 use Rattle.soundness.proofs.Cases.{same-truth}
-use Rattle.soundness.proofs.Tables.{pool-positions, task-positions}
+use Rattle.soundness.proofs.RecordTests.{pool-positions, task-positions}
 
 -- ---- A test of two things
 

@@ -1,4 +1,4 @@
--- What the parts of the search look at, and what they pass on.
+-- What the parts of the search look at.
 use Rattle.ranks.specs.Prelude.{ℕ, suc, pred, _/_, _%_, _≤_, _<_, _≡_, Bool, true, false, List, [], length, getD, eqb, ltb, _&&_, _||_}
 use Rattle.ranks.specs.Lists.{if_then_else_, _implies_, mapWithIndex}
 use Rattle.ranks.specs.Position.{Position, noQueue, inQueue}

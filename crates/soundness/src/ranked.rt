@@ -72,6 +72,7 @@ fn one(b: bool) -> u16
 
 // For each live queue, its messages or waiters carry the ranks below their count, each exactly once: queue by queue, rank by rank, over the
 // records that can be in the queue. No record has a rank at its queue's count or above, so that a queue that holds nothing has no record.
+// The labels of the two inner loops are their names in the proof.
 pub fn every_ranked(
     queues: &[u8],
     t: &[u8],

@@ -9,7 +9,7 @@ use Rattle.records.specs.Layout.{slotCount, bufferCount, taskCount}
 use Rattle.records.specs.Records.{State, queueAt, bufferAt, taskAt}
 use Rattle.records.specs.Bytes.{Tables, decode, encode, rightLengths}
 use Rattle.records.specs.InRange.{ByteTables, FieldsInRange}
-use Rattle.records.specs.Status.{TIMEOUT, OBJECT-WAS-DELETED, CORRUPT, BAD-CALLER, BAD-SHAPE}
+use Rattle.records.specs.Status.{SUCCESSFUL, TIMEOUT, OBJECT-WAS-DELETED, WAITING, CORRUPT, BAD-CALLER, BAD-SHAPE}
 use Rattle.specification.specs.Answer.{Answer, Refusal, refuse}
 use Rattle.specification.specs.Call.{Directive, Call, broadcast, create, ident, onQueue, call, tick, argumentsInRange}
 use Rattle.specification.specs.Sound.{sound}
@@ -37,11 +37,11 @@ pub data FirstThatHolds (status : ℕ) : List Refusal → Type 0 where
 
 pub record Demand1 : Type 0 where
   -- status n exactly if its test holds and no earlier one does
-  pub exactly : (t : Tables) (c : Call) (n : ℕ) → (n ≡ 0 → ⊥) → (n ≡ 14 → ⊥) → (step t c .answer .status ≡ n) ↔ FirstThatHolds n (refusals t c)
+  pub exactly : (t : Tables) (c : Call) (n : ℕ) → (n ≡ SUCCESSFUL → ⊥) → (n ≡ WAITING → ⊥) → (step t c .answer .status ≡ n) ↔ FirstThatHolds n (refusals t c)
   -- 0 or 14 exactly if no test holds
   pub accepted : (t : Tables) (c : Call) → NotRefused (step t c .answer) ↔ (allTrue (map (λ (r : Refusal). not (r .holds)) (refusals t c)) ≡ true)
   -- "All but 0 and 14 are refusals and change nothing": the very tables, value 0, mask 0
-  pub refused : (t : Tables) (c : Call) → (step t c .answer .status ≡ 0 → ⊥) → (step t c .answer .status ≡ 14 → ⊥)
+  pub refused : (t : Tables) (c : Call) → (step t c .answer .status ≡ SUCCESSFUL → ⊥) → (step t c .answer .status ≡ WAITING → ⊥)
       → step t c ≡ refuse t (step t c .answer .status)
   -- "Order: 16, 10, 11": each exactly where it belongs
   pub bad-shape : (t : Tables) (c : Call) → (step t c .answer .status ≡ BAD-SHAPE) ↔ (rightLengths t ≡ false)
@@ -78,7 +78,7 @@ isCreate tick = false
 
 unfoldable pub issued : List Event → List ℕ
 issued [] = []
-issued (e ∷ es) = if isCreate (e .call) && eqb (e .answer .status) 0 then e .answer .value ∷ issued es else issued es
+issued (e ∷ es) = if isCreate (e .call) && eqb (e .answer .status) SUCCESSFUL then e .answer .value ∷ issued es else issued es
 
 unfoldable pub distinct : List ℕ → Bool
 distinct [] = true

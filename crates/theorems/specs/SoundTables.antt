@@ -2,6 +2,7 @@
 use Rattle.ranks.specs.Prelude.{_≡_, _⊎_, true}
 use Rattle.records.specs.Bytes.{Tables, decode}
 use Rattle.records.specs.InRange.{ByteTables}
+use Rattle.records.specs.Status.{SUCCESSFUL, WAITING}
 use Rattle.specification.specs.Answer.{Answer}
 use Rattle.specification.specs.Sound.{sound}
 
@@ -11,4 +12,4 @@ pub record SoundTables (t : Tables) : Type 0 where
 
 -- "All but 0 and 14 are refusals."
 abbrev pub NotRefused : Answer → Type 0
-NotRefused a = (a .status ≡ 0) ⊎ (a .status ≡ 14)
+NotRefused a = (a .status ≡ SUCCESSFUL) ⊎ (a .status ≡ WAITING)

@@ -5,7 +5,7 @@ use Rattle.records.specs.Records.{freeBuffer}
 use Rattle.records.specs.Bytes.{decodeQueues, decodePool}
 use Rattle.specification.specs.Sound.{soundBuffer}
 use Rattle.soundness.specs.Parts.{onlyQueues, poolPositions}
-use Rattle.soundness.proofs.Tables.{Table, pool-shape, pool-table, table-fails, rules-hold, ranks-below, ranks-decide, messages-among}
+use Rattle.soundness.proofs.RecordTests.{Table, pool-shape, pool-table, table-fails, rules-hold, ranks-below, ranks-decide, messages-among}
 use borrow.Author.Needs.{needs}
 use Rattle.soundness.proofs.buffers.pool_sound.Statement.{statement}
 use Rattle.soundness.proofs.buffers.pool_sound.Tie as tie

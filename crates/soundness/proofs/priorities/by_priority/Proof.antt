@@ -7,7 +7,7 @@ use mathlib.Core.Logic.{⊎-elim}
 use lib.ListN.{getD}
 use Rattle.ranks.proofs.Tests.{lt-or-ge}
 use Rattle.soundness.proofs.Ranks.{length-positions}
-use Rattle.soundness.proofs.Tables.{tasks-shape}
+use Rattle.soundness.proofs.RecordTests.{tasks-shape}
 use Rattle.soundness.proofs.Orders.{ranks-fit, one-at-rank, rising, falling}
 use borrow.Author.Needs.{needs}
 use Rattle.soundness.proofs.priorities.by_priority.Statement.{statement}

@@ -5,7 +5,7 @@ use Rattle.records.specs.Records.{freshTask}
 use Rattle.records.specs.Bytes.{decodeQueues, decodeTasks}
 use Rattle.specification.specs.Sound.{soundTask}
 use Rattle.soundness.specs.Parts.{onlyQueues, taskPositions}
-use Rattle.soundness.proofs.Tables.{Table, tasks-shape, tasks-table, table-fails, ranks-below, ranks-decide, waiters-among}
+use Rattle.soundness.proofs.RecordTests.{Table, tasks-shape, tasks-table, table-fails, ranks-below, ranks-decide, waiters-among}
 use borrow.Author.Needs.{needs}
 use Rattle.soundness.proofs.tasks.tasks_sound.Statement.{statement}
 use Rattle.soundness.proofs.tasks.tasks_sound.Tie as tie

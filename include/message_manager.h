@@ -74,7 +74,6 @@
 
 #include <stddef.h>
 #include <stdint.h>
-#include <string.h>
 
 #ifdef __cplusplus
 extern "C" {
@@ -107,7 +106,7 @@ enum message_queue_status {
     MESSAGE_QUEUE_NO_BUFFER = 13,                /* the queue has room, its share has no free buffer */
     MESSAGE_QUEUE_WAITING = 14,                  /* the caller now waits; not a refusal */
     MESSAGE_QUEUE_INVALID_OPTION = 15,           /* unknown attribute or option */
-    MESSAGE_QUEUE_BAD_SHAPE = 16                 /* a buffer of wrong length, a malformed call record */
+    MESSAGE_QUEUE_BAD_SHAPE = 16                 /* a buffer of wrong length, a malformed call record, a priority 0 */
 };
 
 /* Attributes of a queue; both may be given, added. */
@@ -117,6 +116,21 @@ enum message_queue_status {
 /* Options of receive. */
 #define MESSAGE_QUEUE_WAIT 0
 #define MESSAGE_QUEUE_NO_WAIT 1
+
+/*
+ * Makes the tables fresh, whatever they hold. The host does so before the first call. No answer record is written.
+ *
+ * Done over tables in use, it forgets every queue, message and wait, wakes nobody, and ids are issued anew from the
+ * first: the host then sees to it that no task keeps an old id or waits for a mask.
+ *
+ *   priorities, priorities_size  32 bytes, the priority of task t at byte t: 1 to 255
+ *
+ * Returns BAD_SHAPE and has done nothing where a table is shorter or longer than it must be, `priorities` has another
+ * length than 32, or a priority is 0; else SUCCESSFUL.
+ */
+uint32_t message_manager_fresh_tables(
+    uint8_t *queues, size_t queues_size, uint8_t *pool, size_t pool_size, uint8_t *tasks, size_t tasks_size,
+    const uint8_t *priorities, size_t priorities_size);
 
 /*
  * Creates a queue in the caller's share, at its lowest free slot.
@@ -310,18 +324,6 @@ uint32_t message_manager_replay(
     uint8_t *queues, size_t queues_size, uint8_t *pool, size_t pool_size, uint8_t *tasks, size_t tasks_size,
     const uint8_t *log, size_t log_size,
     uint8_t *answers, size_t answers_size);
-
-/* Makes tables fresh. `priorities` has 32 bytes, that of task t at t, each 1 to 255. */
-static inline void message_manager_fresh_tables(
-    uint8_t *queues, uint8_t *pool, uint8_t *tasks, const uint8_t *priorities)
-{
-    size_t t;
-    memset(queues, 0, MESSAGE_MANAGER_QUEUES_SIZE);
-    memset(pool, 0, MESSAGE_MANAGER_POOL_SIZE);
-    memset(tasks, 0, MESSAGE_MANAGER_TASKS_SIZE);
-    for (t = 0; t < MESSAGE_MANAGER_TASK_COUNT; t++)
-        tasks[MESSAGE_MANAGER_TASK_RECORD_SIZE * t + 3] = priorities[t];
-}
 
 /* A little-endian number. */
 static inline uint32_t message_manager_read_u32(const uint8_t *bytes)

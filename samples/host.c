@@ -156,13 +156,14 @@ static void tick(void)
 
 /* ---- The story */
 
-static void make_fresh_tables(void)
+/* The status; task t has priority t + 1. */
+static uint32_t make_fresh_tables(void)
 {
     uint8_t priorities[MESSAGE_MANAGER_TASK_COUNT];
     uint8_t task;
     for (task = 0; task < MESSAGE_MANAGER_TASK_COUNT; task++)
         priorities[task] = task + 1;
-    message_manager_fresh_tables(tables.queues, tables.pool, tables.tasks, priorities);
+    return message_manager_fresh_tables(TABLES, priorities, sizeof priorities);
 }
 
 /* A message that is too long, and a closed queue of another share: the tables stay as they are. */
@@ -178,7 +179,8 @@ int main(void)
 {
     const uint32_t host = 0, other = 1, guest = 8;
     uint32_t levels, limits;
-    make_fresh_tables();
+    if (make_fresh_tables() != MESSAGE_QUEUE_SUCCESSFUL)
+        return 1;
 
     levels = create(host, "LEVL", 4, 16, MESSAGE_QUEUE_OPEN);
     limits = create(host, "LIMT", 2, 8, 0);

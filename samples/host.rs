@@ -30,6 +30,10 @@ mod message_manager {
     }
 
     extern "C" {
+        fn message_manager_fresh_tables(
+            queues: *mut u8, queues_size: usize, pool: *mut u8, pool_size: usize, tasks: *mut u8, tasks_size: usize,
+            priorities: *const u8, priorities_size: usize,
+        ) -> u32;
         fn message_queue_create(
             queues: *mut u8, queues_size: usize, pool: *const u8, pool_size: usize,
             tasks: *const u8, tasks_size: usize,
@@ -94,6 +98,16 @@ mod message_manager {
 
     // Slices hold what the library asks for: they are not null, all their bytes are there, and one that is lent to be
     // written overlaps no other. So the functions below are safe for any arguments.
+
+    /// The status.
+    pub fn fresh_tables(queues: &mut [u8], pool: &mut [u8], tasks: &mut [u8], priorities: &[u8]) -> u32 {
+        unsafe {
+            message_manager_fresh_tables(
+                queues.as_mut_ptr(), queues.len(), pool.as_mut_ptr(), pool.len(), tasks.as_mut_ptr(), tasks.len(),
+                priorities.as_ptr(), priorities.len(),
+            )
+        }
+    }
 
     pub fn create(
         queues: &mut [u8], pool: &[u8], tasks: &[u8], caller: u32, name: u32, limit: u32, max_size: u32,
@@ -216,13 +230,13 @@ fn status_name(status: u32) -> &'static str {
 }
 
 impl Host {
-    /// Fresh tables: zero but for the priorities.
+    /// Fresh tables; task t has priority t + 1.
     fn new() -> Host {
-        let mut tasks = [0; TASKS_SIZE];
-        for task in 0..TASK_COUNT {
-            tasks[TASK_RECORD_SIZE * task + 3] = task as u8 + 1;
-        }
-        Host { queues: [0; QUEUES_SIZE], pool: [0; POOL_SIZE], tasks }
+        let mut host = Host { queues: [0; QUEUES_SIZE], pool: [0; POOL_SIZE], tasks: [0; TASKS_SIZE] };
+        let priorities: [u8; TASK_COUNT] = std::array::from_fn(|task| task as u8 + 1);
+        let status = fresh_tables(&mut host.queues, &mut host.pool, &mut host.tasks, &priorities);
+        assert_eq!(status, SUCCESSFUL);
+        host
     }
 
     // ---- In words

@@ -1,11 +1,12 @@
 /*
- * Holds the static library to an independent program, item by item from standard input. An item is an image of the
- * tables (12,800 bytes), a call record (136), the answer that the call must give (16) and the image that it must leave
- * (12,800).
+ * Holds the static library to an independent program, item by item from standard input. First there stands an image of
+ * fresh tables with priority t + 1 for task t (12,800 bytes). An item is an image of the tables (12,800 bytes), a call
+ * record (136), the answer that the call must give (16) and the image that it must leave (12,800).
  *
  * Each call is made by message_manager_call, by message_manager_replay as a log of one record and, where the record is
- * well formed, by the directive's own function; then with buffers of wrong lengths. Each time all that was lent is
- * compared byte by byte. A line is printed for each difference: the item's number, a tab, what differs.
+ * well formed, by the directive's own function; then with buffers of wrong lengths. The item's tables are also made
+ * fresh, and are lent so that they must not be. Each time all that was lent is compared byte by byte. A line is printed
+ * for each difference: the item's number, a tab, what differs.
  */
 #include "message_manager.h"
 
@@ -26,14 +27,15 @@ static struct {
     uint8_t answer[MESSAGE_MANAGER_ANSWER_SIZE], after[IMAGE_SIZE];
 } item;
 static unsigned long number; /* of the item */
+static uint8_t fresh[IMAGE_SIZE], priorities[MESSAGE_MANAGER_TASK_COUNT];
 
 /* ---- The buffers lent to a call, each with a byte to spare, so that it can be lent too long */
 
-enum { QUEUES, POOL, TASKS, RECORD, ANSWER, BUFFERS };
-static const char *const buffer_names[BUFFERS] = { "queues", "pool", "tasks", "record", "answer" };
+enum { QUEUES, POOL, TASKS, RECORD, PRIORITIES, ANSWER, BUFFERS };
+static const char *const buffer_names[BUFFERS] = { "queues", "pool", "tasks", "record", "priorities", "answer" };
 static const size_t right_sizes[BUFFERS] = {
     MESSAGE_MANAGER_QUEUES_SIZE, MESSAGE_MANAGER_POOL_SIZE, MESSAGE_MANAGER_TASKS_SIZE, MESSAGE_MANAGER_RECORD_SIZE,
-    MESSAGE_MANAGER_ANSWER_SIZE
+    MESSAGE_MANAGER_TASK_COUNT, MESSAGE_MANAGER_ANSWER_SIZE
 };
 static uint8_t bytes[BUFFERS][MESSAGE_MANAGER_POOL_SIZE + 1];
 static size_t sizes[BUFFERS];
@@ -52,6 +54,7 @@ static const uint8_t *contents(int b, const uint8_t *image, const uint8_t *answe
     case POOL: return image + POOL_AT;
     case TASKS: return image + TASKS_AT;
     case RECORD: return item.record;
+    case PRIORITIES: return priorities;
     default: return answer;
     }
 }
@@ -103,6 +106,13 @@ static uint32_t by_directive(void)
     case 10: return message_clock_tick(TABLES, LENT(ANSWER));
     default: fprintf(stderr, "item %lu: no operation %u\n", number, r[0]); exit(2);
     }
+}
+
+/* ---- Fresh tables, which are no call */
+
+static uint32_t by_priorities(void)
+{
+    return message_manager_fresh_tables(TABLES, LENT(PRIORITIES));
 }
 
 /* ---- Comparing */
@@ -165,17 +175,17 @@ static void try_refused(const char *name, way *call, int b, size_t size, uint8_t
 }
 
 /* BAD_SHAPE, and nothing is written. */
-static void try_unanswered(const char *name, way *call, size_t size)
+static void try_unanswered(const char *name, way *call, int b, size_t size)
 {
-    try_size(name, call, ANSWER, size, MESSAGE_QUEUE_BAD_SHAPE, untouched, item.image);
+    try_size(name, call, b, size, MESSAGE_QUEUE_BAD_SHAPE, untouched, item.image);
 }
 
 static void try_wrong_sizes(const char *name, way *call)
 {
     int b;
-    try_unanswered(name, call, 0);
-    try_unanswered(name, call, 15);
-    try_unanswered(name, call, 17);
+    try_unanswered(name, call, ANSWER, 0);
+    try_unanswered(name, call, ANSWER, 15);
+    try_unanswered(name, call, ANSWER, 17);
     for (b = QUEUES; b <= TASKS; b++) {
         try_refused(name, call, b, right_sizes[b] - 1, item.record[0]);
         try_refused(name, call, b, right_sizes[b] + 1, item.record[0]);
@@ -200,7 +210,7 @@ static void check_log(void)
     try_right(name, by_log, MESSAGE_QUEUE_SUCCESSFUL);
     try_size(name, by_log, ANSWER, 17, MESSAGE_QUEUE_SUCCESSFUL, item.answer, item.after);
     try_size(name, by_log, RECORD, 0, MESSAGE_QUEUE_SUCCESSFUL, untouched, item.image);
-    try_unanswered(name, by_log, 15);
+    try_unanswered(name, by_log, ANSWER, 15);
 }
 
 /* Of an image, whose tables have the right lengths, only a malformed record is BAD_SHAPE. */
@@ -213,14 +223,40 @@ static void check_directive(void)
     }
 }
 
+/* A table or the priorities of a wrong length, or a priority of 0, a task's in turn, leave the tables as they are. */
+static void check_fresh(void)
+{
+    const char *name = "message_manager_fresh_tables";
+    const size_t task = number % MESSAGE_MANAGER_TASK_COUNT;
+    int b;
+    try_size(name, by_priorities, PRIORITIES, MESSAGE_MANAGER_TASK_COUNT, MESSAGE_QUEUE_SUCCESSFUL, untouched, fresh);
+    for (b = QUEUES; b <= TASKS; b++) {
+        try_unanswered(name, by_priorities, b, right_sizes[b] - 1);
+        try_unanswered(name, by_priorities, b, right_sizes[b] + 1);
+    }
+    try_unanswered(name, by_priorities, PRIORITIES, 0);
+    try_unanswered(name, by_priorities, PRIORITIES, 31);
+    try_unanswered(name, by_priorities, PRIORITIES, 33);
+    priorities[task] = 0;
+    try_unanswered(name, by_priorities, PRIORITIES, MESSAGE_MANAGER_TASK_COUNT);
+    priorities[task] = task + 1;
+}
+
 int main(void)
 {
-    size_t got;
+    size_t got, task;
     memset(untouched, SPARE, sizeof untouched);
+    for (task = 0; task < MESSAGE_MANAGER_TASK_COUNT; task++)
+        priorities[task] = task + 1;
+    if (fread(fresh, 1, sizeof fresh, stdin) != sizeof fresh) {
+        fprintf(stderr, "no image of fresh tables\n");
+        return 2;
+    }
     while ((got = fread(&item, 1, sizeof item, stdin)) == sizeof item) {
         check_record();
         check_log();
         check_directive();
+        check_fresh();
         number++;
     }
     if (got != 0 || ferror(stdin)) {

@@ -1,3 +1,3 @@
-pub mod Cases
 pub mod Laws
+pub mod LogCases
 pub mod ReaderParts

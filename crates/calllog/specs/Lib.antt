@@ -1,1 +1,2 @@
 pub mod CallLog
+pub mod LogCases

@@ -10,8 +10,9 @@ use Rattle.ranks.specs.Table.{spliced}
 use Rattle.records.specs.Bytes.{Tables, toLittleEndian}
 use Rattle.specification.specs.Answer.{Answer, Outcome}
 use Rattle.calllog.specs.CallLog.{answerBytes}
+use Rattle.runs.specs.Fresh.{MadeFresh}
 use Rattle.runs.specs.Replay.{answerRecord, Replayed, ReplayedInto, intoLent}
-use Rattle.message_manager.specs.Interface.{answeredInto, returnedOf}
+use Rattle.message_manager.specs.Interface.{answeredInto, returnedOf, returnedAlone}
 
 -- An answer record that is written from place 0 on fills a buffer of 16 bytes.
 pub filled : (lent r : List ℕ) (a : Answer) (firstByte : ℕ) → length lent ≡ 16 → r ≡ answerRecord a firstByte → spliced lent 0 r ≡ answerRecord a firstByte
@@ -37,3 +38,8 @@ module _ (lent : List ℕ) (t : Tables) (firstByte : ℕ) where
 -- a log was replayed, or was not, and the test of that went so
 pub returned : (r : Replayed) {done so : Bool} {x : ReplayedInto} → done ≡ so → intoLent done r ≡ x → returnedOf (intoLent so r) ≡ returnedOf x
 returned r h e = ap (λ (b : Bool). returnedOf (intoLent b r)) (sym h) ∙ ap returnedOf e
+
+-- fresh tables were made, or were not, and the test of that went so
+pub returned-alone : (after : Tables) {done so : Bool} {x : MadeFresh} → done ≡ so → (record { done = done; after = after }) ≡ x
+    → returnedAlone (record { done = so; after = after }) ≡ returnedAlone x
+returned-alone after h e = ap (λ (b : Bool). returnedAlone (record { done = b; after = after })) (sym h) ∙ ap returnedAlone e

@@ -1,5 +1,5 @@
 -- The C interface: what each function returns, the bytes that it leaves in the answer buffer, and the tables that it leaves.
-use Rattle.ranks.specs.Prelude.{ℕ, List, length, eqb}
+use Rattle.ranks.specs.Prelude.{ℕ, Bool, List, length, eqb}
 use Rattle.ranks.specs.Lists.{if_then_else_}
 use Rattle.ranks.specs.Table.{byte}
 use Rattle.records.specs.Bytes.{Tables}
@@ -8,6 +8,7 @@ use Rattle.specification.specs.Answer.{Outcome}
 use Rattle.specification.specs.Call.{Operation, Call, delete, send, urgent, broadcast, receive, getNumberPending, flush, create, ident, onQueue, call, tick}
 use Rattle.specification.specs.Step.{step}
 use Rattle.calllog.specs.CallLog.{readRecord, messageOf}
+use Rattle.runs.specs.Fresh.{MadeFresh, madeFresh}
 use Rattle.runs.specs.Replay.{answerRecord, outcomeFor, ReplayedInto, replayedInto}
 
 pub record Returned : Type 0 where
@@ -52,11 +53,28 @@ called lent t c = answeredInto lent t (callNumber c) (step t c)
 abbrev pub calledRecord : (lent : List ℕ) → Tables → (bytes : List ℕ) → Returned
 calledRecord lent t bytes = answeredInto lent t (byte 0 bytes) (outcomeFor t (readRecord bytes) (messageOf bytes))
 
--- ---- A log
+-- ---- A log, and fresh tables
 
--- 0 for a log that was replayed, 16 where the lent bytes have no room for its answer records
+-- 0 for what was done, 16 where nothing was
+abbrev pub doneStatus : Bool → ℕ
+doneStatus done = if done then SUCCESSFUL else BAD-SHAPE
+
 abbrev pub returnedOf : ReplayedInto → Returned
-returnedOf r = record { status = if r .done then SUCCESSFUL else BAD-SHAPE; answer = r .answers; after = r .after }
+returnedOf r = record { status = doneStatus (r .done); answer = r .answers; after = r .after }
 
+-- A log is not replayed where the lent bytes have no room for its answer records.
 abbrev pub replayedLog : (lent : List ℕ) → Tables → (log : List ℕ) → Returned
 replayedLog lent t log = returnedOf (replayedInto t log lent)
+
+-- what a function without an answer buffer returns, and the tables that it leaves
+pub record ReturnedAlone : Type 0 where
+  pub status : ℕ
+  pub after : Tables
+
+abbrev pub returnedAlone : MadeFresh → ReturnedAlone
+returnedAlone m = record { status = doneStatus (m .done); after = m .after }
+
+-- "Fresh tables are zero but for priorities of 1 to 255." None are made where a table has a wrong length, or the priorities are not those
+-- of 32 tasks, each 1 to 255.
+abbrev pub freshTablesMade : Tables → (priorities : List ℕ) → ReturnedAlone
+freshTablesMade t priorities = returnedAlone (madeFresh t priorities)

@@ -2,4 +2,5 @@
 // A slice passes as a pointer and then a length.
 pub mod answer; // answer.rt: the answer buffer
 pub mod directives; // directives.rt: the nine directives and the clock tick
+pub mod fresh; // fresh.rt: fresh tables
 pub mod logs; // logs.rt: a call record, and a whole log

@@ -5,7 +5,7 @@
  *
  * Each call is made by message_manager_call, by message_manager_replay as a log of one record and, where the record is
  * well formed, by the directive's own function; then with buffers of wrong lengths. The item's tables are also made
- * fresh, and are lent so that they must not be. Each time all that was lent is compared byte by byte. A line is printed
+ * fresh, and are lent so that they must not be. Before the items numbers are tried that no record has room for. Each time all that was lent is compared byte by byte. A line is printed
  * for each difference: the item's number, a tab, what differs.
  */
 #include "message_manager.h"
@@ -242,6 +242,34 @@ static void check_fresh(void)
     priorities[task] = task + 1;
 }
 
+/* Numbers that a call record has no room for are not cut to a byte: on fresh tables in which task 0 has made one queue. */
+static void check_numbers(void)
+{
+    static const uint8_t message[257];
+    uint8_t *const answer = bytes[ANSWER];
+    const size_t size = MESSAGE_MANAGER_ANSWER_SIZE;
+    uint32_t id;
+    load();
+    memcpy(sizes, right_sizes, sizeof sizes);
+    message_manager_fresh_tables(TABLES, LENT(PRIORITIES));
+    message_queue_create(TABLES, 0, 5, 2, 8, 0, answer, size);
+    id = message_manager_value(answer);
+#define WANT(status, name, ...) \
+    do { \
+        const uint32_t returned = message_queue_##name(TABLES, __VA_ARGS__, answer, size); \
+        if (returned != MESSAGE_QUEUE_##status) \
+            report(#name, ": a number above 255: returned %u, not %u", returned, (unsigned)MESSAGE_QUEUE_##status); \
+    } while (0)
+    WANT(BAD_CALLER, create, 256, 5, 2, 8, 0);
+    WANT(INVALID_OPTION, create, 0, 5, 2, 8, 256);
+    WANT(INVALID_NUMBER, create, 0, 5, 257, 8, 0);
+    WANT(INVALID_SIZE, create, 0, 5, 2, 257, 0);
+    WANT(INVALID_NODE, ident, 0, 5, 256);
+    WANT(INVALID_OPTION, receive, 0, id, 257, 0);
+    WANT(INVALID_SIZE, send, 0, id, message, 257);
+#undef WANT
+}
+
 int main(void)
 {
     size_t got, task;
@@ -252,6 +280,7 @@ int main(void)
         fprintf(stderr, "no image of fresh tables\n");
         return 2;
     }
+    check_numbers();
     while ((got = fread(&item, 1, sizeof item, stdin)) == sizeof item) {
         check_record();
         check_log();

@@ -5,8 +5,9 @@
  *
  * Each call is made by message_manager_call, by message_manager_replay as a log of one record and, where the record is
  * well formed, by the directive's own function; then with buffers of wrong lengths. The item's tables are also made
- * fresh, and are lent so that they must not be. Before the items numbers are tried that no record has room for. Each time all that was lent is compared byte by byte. A line is printed
- * for each difference: the item's number, a tab, what differs.
+ * fresh, and are lent so that they must not be. Each time all that was lent is compared byte by byte. Before the items,
+ * numbers are tried that no call record has room for. A line is printed for each difference: the item's number, a tab,
+ * what differs.
  */
 #include "message_manager.h"
 

@@ -4,6 +4,7 @@ use Rattle.ranks.specs.Prelude.{ℕ, _/_, _%_, Bool, List, getD, take, replicat
 use Rattle.ranks.specs.Lists.{mapWithIndex, within}
 use Rattle.ranks.specs.Position.{Position, noQueue}
 use Rattle.records.specs.Layout.{capacity, slotCount, bufferCount}
+use Rattle.records.specs.Status.{SUCCESSFUL}
 use Rattle.records.specs.declared.queue.QueueRecord.{QueueRecord}
 
 -- "0 live (0/1); 1 attributes (1 PRIORITY, 2 OPEN); 2 limit; 3 max size; 4-5 generation; 6 pending; 7 waiters; 8-11 name; 12-15 zero"
@@ -92,7 +93,7 @@ freshTask priority =
       state = readyState;
       position = noQueue;
       priority = priority;
-      status = 0;
+      status = SUCCESSFUL;
       messageLength = 0;
       reserved = replicate 2 0;
       ticksLeft = 0;

@@ -28,18 +28,18 @@ split = share 0 4 0 16 0 8 ∷ share 4 4 16 16 8 8 ∷ share 8 4 32 16 16 8 ∷ 
 unfoldable pub shareCount : ℕ
 shareCount = length split
 
-abbrev pub holds : Block → ℕ → Bool
-holds b i = leb (b .from) i && ltb i (b .from + b .count)
+abbrev pub contains : Block → ℕ → Bool
+contains b i = leb (b .from) i && ltb i (b .from + b .count)
 
 -- the share that owns a slot, a buffer, a task
 unfoldable pub shareOfSlot : ℕ → ℕ
-shareOfSlot i = firstTrue (map (λ s. holds (s .slots) i) split)
+shareOfSlot i = firstTrue (map (λ s. contains (s .slots) i) split)
 
 unfoldable pub shareOfBuffer : ℕ → ℕ
-shareOfBuffer b = firstTrue (map (λ s. holds (s .buffers) b) split)
+shareOfBuffer b = firstTrue (map (λ s. contains (s .buffers) b) split)
 
 unfoldable pub shareOfTask : ℕ → ℕ
-shareOfTask t = firstTrue (map (λ s. holds (s .tasks) t) split)
+shareOfTask t = firstTrue (map (λ s. contains (s .tasks) t) split)
 
 -- "In each share the limits of live queues sum to at most 16": to its buffers.
 unfoldable pub shareLimit : ℕ → ℕ

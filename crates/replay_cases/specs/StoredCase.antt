@@ -28,6 +28,6 @@ unfoldable pub replaysTo : Tables → (log answers image : List ℕ) → Bool
 replaysTo t log answers image = let r = replayed t log in same (r .answers) answers && sameTables (r .after) (tablesIn image)
 
 -- from the image with the changes before; the tables that are left have the changes after too
-unfoldable pub holds : (image before log answers after : List ℕ) → Bool
-holds image before log answers after =
+unfoldable pub caseHolds : (image before log answers after : List ℕ) → Bool
+caseHolds image before log answers after =
     let start = changed image before in replaysTo (tablesIn start) log answers (changed start after)

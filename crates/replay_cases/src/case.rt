@@ -5,7 +5,7 @@ ghost use lib.ListN.{length, take, set};
 ghost use Rattle.ranks.specs.Table.{byte};
 ghost use Rattle.manager.specs.Outcomes.{tables};
 ghost use Rattle.runs.specs.Replay.{countOf};
-ghost use Rattle.replay_cases.specs.StoredCase.{changed, same, tablesIn, sameTables, replaysTo, holds};
+ghost use Rattle.replay_cases.specs.StoredCase.{changed, same, tablesIn, sameTables, replaysTo, caseHolds};
 use logio::agreeing::agreeing;
 use records::bytes::copy_into;
 use records::bytes::wide;
@@ -133,7 +133,7 @@ fn with_changes(image: &[u8], changes: &[u8]) -> [u8; 12800]
 // Whether a case holds: from the image with the changes before it, the log is answered as stored and makes the changes after it.
 pub fn case_holds(image: &[u8], before: &[u8], log: &[u8], stored: &[u8], after: &[u8]) -> bool
     requires { ⌜ (length (now image) ≡ 12800) × (countOf (length (now log)) * 16 ≤ 1024) ⌝ }
-    ensures { λ r. ⌜ r ≡ holds (now (image .entry)) (now (before .entry)) (now (log .entry)) (now (stored .entry)) (now (after .entry)) ⌝ }
+    ensures { λ r. ⌜ r ≡ caseHolds (now (image .entry)) (now (before .entry)) (now (log .entry)) (now (stored .entry)) (now (after .entry)) ⌝ }
 {
     let start = with_changes(image, before);
     let end = with_changes(&start, after);

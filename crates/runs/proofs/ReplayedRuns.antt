@@ -27,17 +27,17 @@ use Rattle.calllog.specs.CallLog.{readRecord, answerBytes}
 use Rattle.calllog.specs.declared.call.LogResult.{LogResult}
 use Rattle.calllog.specs.declared.call.LogResult.the-variants.{WellFormed, Malformed, End}
 use Rattle.runs.specs.Replay.{callOf, outcomeFor, answerRecord, Replayed, replayFound, replayRecord, replayRecords, recordsOf, countOf, replayed}
-use Rattle.runs.specs.ReplayedRun.{callSaid, callsOf, writtenFor, written, answerIn, eventsFrom, OfBytes, ReplayIsRun}
+use Rattle.runs.specs.ReplayedRun.{callSaid, callsSaid, writtenFor, written, answerIn, eventsFrom, OfBytes, ReplayIsRun}
 use Rattle.runs.proofs.TableStatus.{InRange, record-in-range}
 
 -- ---- The answers and the tables
 
 -- what a run leaves, written
 abbrev asRun : Tables → (records : List (List ℕ)) → Replayed
-asRun t rs = record { answers = written rs (run t (callsOf rs) .events); after = run t (callsOf rs) .tables }
+asRun t rs = record { answers = written rs (run t (callsSaid rs) .events); after = run t (callsSaid rs) .tables }
 
 replay-is-run : (rs : List (List ℕ)) (t : Tables) → replayRecords t rs ≡ asRun t rs
-unfolding replayRecords replayRecord replayFound outcomeFor run callsOf callSaid written writtenFor
+unfolding replayRecords replayRecord replayFound outcomeFor run callsSaid callSaid written writtenFor
 replay-is-run [] t = refl
 replay-is-run (r ∷ rs) t = go (readRecord r) (replay-is-run rs)
   where
@@ -48,8 +48,8 @@ replay-is-run (r ∷ rs) t = go (readRecord r) (replay-is-run rs)
     go : (f : LogResult) → ((t : Tables) → replayRecords t rs ≡ asRun t rs)
         → after (outcomeFor t f (drop 16 r) .answer) (replayRecords (outcomeFor t f (drop 16 r) .after) rs)
         ≡ record {
-          answers = writtenFor f (byte 0 r) (written rs) (run t (callSaid f (drop 16 r) ++ callsOf rs) .events);
-          after = run t (callSaid f (drop 16 r) ++ callsOf rs) .tables;
+          answers = writtenFor f (byte 0 r) (written rs) (run t (callSaid f (drop 16 r) ++ callsSaid rs) .events);
+          after = run t (callSaid f (drop 16 r) ++ callsSaid rs) .tables;
         }
     go (WellFormed c) rest = ap (after (step t (callOf c (drop 16 r)) .answer)) (rest (step t (callOf c (drop 16 r)) .after))
     go Malformed rest = ap (after (refuse t 16 .answer)) (rest t)
@@ -74,13 +74,13 @@ pub log-of-bytes : (log : List ℕ) → AllBytes log → EachOfBytes (recordsOf 
 unfolding recordsOf
 log-of-bytes log b = records-of-bytes (countOf (length log)) b
 
-pub calls-in-range : (rs : List (List ℕ)) → EachOfBytes rs → allTrue (map argumentsInRange (callsOf rs)) ≡ true
-unfolding callsOf callSaid allTrue
+pub calls-in-range : (rs : List (List ℕ)) → EachOfBytes rs → allTrue (map argumentsInRange (callsSaid rs)) ≡ true
+unfolding callsSaid callSaid allTrue
 calls-in-range [] b = refl
 calls-in-range (r ∷ rs) b = go (readRecord r) (record-in-range r (b .0)) (calls-in-range rs (b .1))
   where
-    go : (f : LogResult) → InRange (drop 16 r) f → allTrue (map argumentsInRange (callsOf rs)) ≡ true
-        → allTrue (map argumentsInRange (callSaid f (drop 16 r) ++ callsOf rs)) ≡ true
+    go : (f : LogResult) → InRange (drop 16 r) f → allTrue (map argumentsInRange (callsSaid rs)) ≡ true
+        → allTrue (map argumentsInRange (callSaid f (drop 16 r) ++ callsSaid rs)) ≡ true
     go (WellFormed c) p rest = rw p rest
     go Malformed p rest = rest
     go End p rest = rest
@@ -138,13 +138,13 @@ read-back a firstByte rest r =
     ap₂ {C = Answer} (λ (v w : ℕ). record { status = a .status; value = v; woken = w })
     (from-to-little-endian 4 (a .value) (r .value)) (from-to-little-endian 4 (a .woken) (r .woken))
 
-events-are : (rs : List (List ℕ)) (t : Tables) → Answering t → EachOfBytes rs → eventsFrom rs (replayRecords t rs .answers) ≡ run t (callsOf rs) .events
-unfolding eventsFrom replayRecords replayRecord replayFound outcomeFor run callsOf callSaid answerBytes toLittleEndian
+events-are : (rs : List (List ℕ)) (t : Tables) → Answering t → EachOfBytes rs → eventsFrom rs (replayRecords t rs .answers) ≡ run t (callsSaid rs) .events
+unfolding eventsFrom replayRecords replayRecord replayFound outcomeFor run callsSaid callSaid answerBytes toLittleEndian
 events-are [] t k b = refl
 events-are (r ∷ rs) t k b = go (readRecord r) (record-in-range r (b .0)) (λ t′ k′. events-are rs t′ k′ (b .1))
   where
     go : (f : LogResult) → InRange (drop 16 r) f
-        → ((t : Tables) → Answering t → eventsFrom rs (replayRecords t rs .answers) ≡ run t (callsOf rs) .events)
+        → ((t : Tables) → Answering t → eventsFrom rs (replayRecords t rs .answers) ≡ run t (callsSaid rs) .events)
         → map
         (λ c. record {
           call = c;
@@ -152,7 +152,7 @@ events-are (r ∷ rs) t k b = go (readRecord r) (record-in-range r (b .0)) (λ t
         })
         (callSaid f (drop 16 r))
         ++ eventsFrom rs (drop 16 (answerRecord (outcomeFor t f (drop 16 r) .answer) (byte 0 r) ++ replayRecords (outcomeFor t f (drop 16 r) .after) rs .answers))
-        ≡ run t (callSaid f (drop 16 r) ++ callsOf rs) .events
+        ≡ run t (callSaid f (drop 16 r) ++ callsSaid rs) .events
     go (WellFormed c) p rest =
         ap₂ {C = List Event} (λ (a : Answer) (es : List Event). record { call = callOf c (drop 16 r); answer = a } ∷ es)
         (read-back (step t (callOf c (drop 16 r)) .answer) (byte 0 r) (replayRecords (step t (callOf c (drop 16 r)) .after) rs .answers)

@@ -21,12 +21,12 @@ callSaid Malformed message = []
 callSaid End message = []
 
 -- of the records of a log, in order
-unfoldable pub callsOf : (records : List (List ℕ)) → List Call
-callsOf [] = []
-callsOf (r ∷ rs) = callSaid (readRecord r) (messageOf r) ++ callsOf rs
+unfoldable pub callsSaid : (records : List (List ℕ)) → List Call
+callsSaid [] = []
+callsSaid (r ∷ rs) = callSaid (readRecord r) (messageOf r) ++ callsSaid rs
 
 abbrev pub callsIn : (log : List ℕ) → List Call
-callsIn log = callsOf (recordsOf log)
+callsIn log = callsSaid (recordsOf log)
 
 -- ---- What is written of a log whose calls got the answers of a run
 

@@ -53,9 +53,17 @@ logOf (last c t e) = take (t .filled .n) (t .block)
 logOf (more c t e rest) = take (t .filled .n) (t .block) ++ logOf rest
 logOf (spent c e) = []
 
--- The turns of a log, of which the program makes no more than 2^64 - 1: the tables after them are those after the log, as a whole.
+-- the answers of the turns, those of each turn's block behind those of the turns before
+unfoldable pub answersOf : {answering : Bool} {ending : Ending} {left : Tables} {count : ℕ} {start : Tables} → Turns answering ending left count start → List ℕ
+answersOf {start = start} (last c t e) = replayed start (take (t .filled .n) (t .block)) .answers
+answersOf {start = start} (more c t e rest) = replayed start (take (t .filled .n) (t .block)) .answers ++ answersOf rest
+answersOf (spent c e) = []
+
+-- The turns of a log, of which the program makes no more than 2^64 - 1: their answers are those of the log, as a whole, and so are the
+-- tables after them.
 pub record ReplayedInTurns (answering : Bool) (start : Tables) (ending : Ending) (left : Tables) : Type 0 where
   pub turns : Turns answering ending left 18446744073709551615 start
+  pub answers : answersOf turns ≡ replayed start (logOf turns) .answers
   pub after : left ≡ replayed start (logOf turns) .after
 
 -- What is said of a log: nothing where it was replayed to its end, and else what failed.

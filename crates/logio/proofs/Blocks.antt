@@ -17,7 +17,7 @@ use Rattle.logio.specs.declared.reading.Input.{Input}
 use Rattle.logio.specs.declared.reading.Filled.{Filled}
 use Rattle.logio.specs.declared.input.Ending.{Ending}
 use Rattle.logio.specs.declared.input.Ending.the-variants.{GoesOn, Complete}
-use Rattle.logio.specs.Reading.{standardInput, Fills, full, ended, failed, more}
+use Rattle.logio.specs.Filling.{standardInput, Fills, full, ended, failed, more}
 use Rattle.logio.specs.Turns.{blockBytes, afterBlock, goesOn, Finished, Turn, Turns, last, spent, logOf, answersOf, ReplayedInTurns}
 use Rattle.logio.specs.Turns as Turns
 use Rattle.logio.proofs.Added.{room-left}

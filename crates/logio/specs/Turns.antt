@@ -8,7 +8,7 @@ use Rattle.runs.specs.Replay.{replayed}
 use Rattle.logio.specs.declared.reading.Filled.{Filled}
 use Rattle.logio.specs.declared.input.Ending.{Ending}
 use Rattle.logio.specs.declared.input.Ending.the-variants.{GoesOn, Complete, NotRead, NotWritten}
-use Rattle.logio.specs.Reading.{standardInput, Fills}
+use Rattle.logio.specs.Filling.{standardInput, Fills}
 use Rattle.logio.specs.Writing.{standardOutput, WritesAnswers, inputName, outputName, Says}
 
 -- a block has whole records

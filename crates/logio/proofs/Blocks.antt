@@ -96,7 +96,7 @@ none-yet : (t : Tables) → (record { answers = []; after = t }) ≡ replayed t 
 unfolding replayed recordsOf countOf records replayRecords
 none-yet t = refl
 
--- the answers of the turns and the tables after them are those of the log
+-- the answers of the turns, and the tables after them, are those of the whole log
 pub whole-log : {answering : Bool} {ending : Ending} {left : Tables} {count : ℕ} {start : Tables} (ts : Turns answering ending left count start)
     → (record { answers = answersOf ts; after = left }) ≡ replayed start (logOf ts)
 unfolding logOf answersOf

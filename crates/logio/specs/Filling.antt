@@ -1,8 +1,8 @@
 -- A buffer filled by reads.
--- Exact are: what an answer of the system comes to (`afterRead`), that the bytes already in the buffer stay, and when the reads go on and
--- what they come to together (`Fills`). No contract can say which bytes the system hands over, which answer it gives, or that it was asked
--- at all: an answer is one that it may give. That `read_behind` asks it, with that descriptor and for the bytes behind the first `n`, is
--- read in its body, a line, and shown by runs.
+-- Exact are what an answer of the system comes to (`afterRead`), and that the bytes already in the buffer stay; `Fills` says when reads with
+-- such answers go on. No contract can say which bytes the system hands over, which answer it gives, or that it was asked at all: code that
+-- made an answer up would meet `ReadMore` and `Fills` too. That `read_behind` asks the system, with that descriptor and for bytes behind
+-- the first `n`, is read in its body, a line, and shown by runs.
 use Rattle.ranks.specs.Prelude.{ℕ, zero, suc, _+_, _-_, _≡_, true, false, List, length, take}
 use lib.IntN.{ℤ, pos, negsuc}
 use Rattle.libc.specs.Io.{Moved}

@@ -1,7 +1,7 @@
 -- A log of any length, read and replayed a block at a time.
--- Exact are: that what is replayed is what was put into the blocks, all of it in order and as one log, which answers belong to which block,
--- what becomes of the log after a block (`afterBlock`), and when the turns go on. No contract can say which bytes the system hands over,
--- whether it takes the answers, or that it was asked at all: see Filling.antt and Writing.antt.
+-- Exact are, by what the reads and the writes came to: that what is replayed is what was put into the blocks, all of it in order and as one
+-- log, which answers belong to which block, what becomes of the log after a block (`afterBlock`), and when the turns go on. No contract can
+-- say what the reads and the writes came to, or that the system was asked for them: Filling.antt and Writing.antt say where that is read.
 use Rattle.ranks.specs.Prelude.{ℕ, suc, _*_, _≡_, Bool, true, false, List, [], _++_, length, take, ltb}
 use Rattle.ranks.specs.Lists.{if_then_else_}
 use Rattle.records.specs.Bytes.{Tables}

@@ -1,8 +1,8 @@
 -- Bytes written to a descriptor, and messages.
--- Exact are: that all is done where nobody asks for answers (`WritesAnswers`), and what the messages name. No contract can say which bytes
--- go out, or that the system was asked at all: `Writes` and `Says` hold of whatever they are said of. They name the descriptor and the
--- bytes of a call, so that a contract above them says which bytes it is about. That `write` and `say_failed` ask the system, with that
--- descriptor and those bytes, is read in their bodies, a line each, and shown by runs.
+-- Exact are that all is done where nobody asks for answers (`WritesAnswers`), and which bytes the messages name. No contract can say which
+-- bytes go out, or that the system was asked at all: `Writes` and `Says` hold of any bytes, and code that wrote nothing would meet them too.
+-- They name the descriptor and the bytes of a call, so that the definitions above them say which bytes belong to it. That `write` and
+-- `say_failed` ask the system, with that descriptor and those bytes, is read in their bodies, a line each, and shown by runs.
 use Rattle.ranks.specs.Prelude.{ℕ, _≡_, Bool, true, false, List, [], _∷_}
 use lib.IntN.{pos}
 use Rattle.logio.specs.declared.writing.Output.{Output}

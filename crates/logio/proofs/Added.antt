@@ -11,7 +11,7 @@ use Rattle.libc.specs.Io.{Moved}
 use Rattle.logio.specs.declared.reading.Input.{Input}
 use Rattle.logio.specs.declared.reading.Read.{Read}
 use Rattle.logio.specs.declared.reading.Read.the-variants.{More, Ended, Failed}
-use Rattle.logio.specs.Reading.{afterRead, ReadMore}
+use Rattle.logio.specs.Filling.{afterRead, ReadMore}
 
 isMore : Read → Bool
 isMore (More m) = true

@@ -5,7 +5,7 @@ use borrow.Author.Tests.{ltb-false}
 use Prim.Native.Nat.{ℕ, zero, suc, _+_, _*_, _/_, _≤_, zero-le}
 use mathlib.Core.Bool.{Bool, true, false}
 use mathlib.Core.Path.{_≡_, refl, sym, ap, ap₂, subst, _∙_}
-use mathlib.Core.List.{List, [], _∷_, _++_}
+use mathlib.Core.List.{List, [], _∷_, _++_, append-assoc}
 use lib.Dec.{T, ltb}
 use lib.ListN.{length, take, drop, length-append, length-drop}
 use lib.Seq.{length-take-le, take-append-le, drop-append-le}
@@ -17,17 +17,25 @@ use Rattle.logio.specs.declared.reading.Input.{Input}
 use Rattle.logio.specs.declared.reading.Filled.{Filled}
 use Rattle.logio.specs.declared.input.Ending.{Ending}
 use Rattle.logio.specs.declared.input.Ending.the-variants.{GoesOn, Complete}
-use Rattle.logio.specs.Reading.{standardInput, Fills, full, ended, failed, more}
-use Rattle.logio.specs.Turns.{blockBytes, afterBlock, goesOn, Finished, Turn, Turns, last, spent, logOf}
+use Rattle.logio.specs.Filling.{standardInput, Fills, full, ended, failed, more}
+use Rattle.logio.specs.Turns.{blockBytes, afterBlock, goesOn, Finished, Turn, Turns, last, spent, logOf, answersOf, ReplayedInTurns}
 use Rattle.logio.specs.Turns as Turns
 use Rattle.logio.proofs.Added.{room-left}
 
+-- a log's second part replayed on the tables that its first part leaves
+abbrev joined : Replayed → (Tables → Replayed) → Replayed
+joined first second = let rest = second (first .after) in record { answers = first .answers ++ rest .answers; after = rest .after }
+
 -- one list of records after another
-then-records : (t : Tables) (rs ss : List (List ℕ))
-    → replayRecords t (rs ++ ss) .after ≡ replayRecords (replayRecords t rs .after) ss .after
+then-records : (t : Tables) (rs ss : List (List ℕ)) → replayRecords t (rs ++ ss) ≡ joined (replayRecords t rs) (λ u. replayRecords u ss)
 unfolding replayRecords
 then-records t [] ss = refl
-then-records t (r ∷ rs) ss = then-records (replayRecord t r .after) rs ss
+then-records t (r ∷ rs) ss =
+    let one = replayRecord t r in
+    let front = replayRecords (one .after) rs in
+    let rest = replayRecords (front .after) ss in
+    ap (λ (x : Replayed). joined one (λ u. x)) (then-records (one .after) rs ss)
+    ∙ ap (λ (l : List ℕ). record { answers = l; after = rest .after }) (sym (append-assoc (one .answers) (front .answers) (rest .answers)))
 
 -- bytes cut into records where the front has whole ones
 cut : (j k n : ℕ) (a b : List ℕ) → length a ≡ j * n → records (j + k) n (a ++ b) ≡ records j n a ++ records k n b
@@ -50,10 +58,9 @@ records-then j a b e =
     ap (λ (m : ℕ). records m 136 (a ++ b)) both ∙ cut j _ 136 a b e ∙ ap (λ (m : ℕ). records m 136 a ++ recordsOf b) (sym whole)
 
 -- a log whose front is a whole block
-block-then : (t : Tables) (a b : List ℕ) → length a ≡ blockBytes → replayed (replayed t a .after) b .after ≡ replayed t (a ++ b) .after
+block-then : (t : Tables) (a b : List ℕ) → length a ≡ blockBytes → joined (replayed t a) (λ u. replayed u b) ≡ replayed t (a ++ b)
 unfolding replayed
-block-then t a b e =
-    sym (ap (λ (rs : List (List ℕ)). replayRecords t rs .after) (records-then 481 a b e) ∙ then-records t (recordsOf a) (recordsOf b))
+block-then t a b e = sym (ap (replayRecords t) (records-then 481 a b e) ∙ then-records t (recordsOf a) (recordsOf b))
 
 -- what the reads put into a buffer has room there
 filled-within : {from : Input} {f : Filled} {new old : List ℕ} {n : ℕ} → n ≤ length old → Fills from f new n old → (f .n ≤ length new) × (length new ≡ length old)
@@ -85,18 +92,30 @@ full-block t e =
     length-take-le (t .filled .n) (t .block) (within .0) ∙ omega (arith, within .0, within .1, all, t .size)
 
 -- before the first block
-none-yet : (t : Tables) → t ≡ replayed t [] .after
+none-yet : (t : Tables) → (record { answers = []; after = t }) ≡ replayed t []
 unfolding replayed recordsOf countOf records replayRecords
 none-yet t = refl
 
--- the tables after the turns are those after the log
-pub after-turns : {answering : Bool} {ending : Ending} {left : Tables} {count : ℕ} {start : Tables} (ts : Turns answering ending left count start)
-    → left ≡ replayed start (logOf ts) .after
-unfolding logOf
-after-turns (last c t e) = t .after
-after-turns {start = start} (Turns.more c t e rest) =
-    after-turns rest ∙ ap (λ (s : Tables). replayed s (logOf rest) .after) (t .after) ∙ block-then start (take (t .filled .n) (t .block)) (logOf rest) (full-block t e)
-after-turns {left = left} (spent c e) = none-yet left
+-- the answers of the turns, and the tables after them, are those of the whole log
+pub whole-log : {answering : Bool} {ending : Ending} {left : Tables} {count : ℕ} {start : Tables} (ts : Turns answering ending left count start)
+    → (record { answers = answersOf ts; after = left }) ≡ replayed start (logOf ts)
+unfolding logOf answersOf
+whole-log {start = start} (last c t e) = ap (λ (u : Tables). record { answers = replayed start (take (t .filled .n) (t .block)) .answers; after = u }) (t .after)
+whole-log {start = start} (Turns.more c t e rest) =
+    let read = take (t .filled .n) (t .block) in
+    let first = replayed start read in
+    ap (λ (x : Replayed). joined first (λ u. x)) (whole-log rest ∙ ap (λ (u : Tables). replayed u (logOf rest)) (t .after))
+    ∙ block-then start read (logOf rest) (full-block t e)
+whole-log {left = left} (spent c e) = none-yet left
+
+-- so a log is replayed in turns
+pub in-turns : {answering : Bool} {ending : Ending} {left start : Tables} → Turns answering ending left 18446744073709551615 start → ReplayedInTurns answering start ending left
+in-turns ts =
+    record {
+      turns = ts;
+      answers = ap (λ (r : Replayed). r .answers) (whole-log ts);
+      after = ap (λ (r : Replayed). r .after) (whole-log ts);
+    }
 
 -- a turn, by what was read and written
 pub one-turn : {answering : Bool} {start left : Tables} {ending : Ending} {from : Input} {bytes : List ℕ} (lent block : List ℕ) (filled : Filled) → length lent ≡ blockBytes

@@ -1,5 +1,5 @@
 -- What the contracts of this crate cite.
 pub mod Agreeing
-pub mod Reading
+pub mod Filling
 pub mod Turns
 pub mod Writing

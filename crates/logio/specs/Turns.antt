@@ -1,5 +1,7 @@
--- A log of any length, read and replayed a block at a time. No contract can say which bytes the system hands over; it can say that what
--- is replayed is what the reads left in the blocks, all of it in order, and when the turns go on.
+-- A log of any length, read and replayed a block at a time.
+-- Exact are, by what the reads and the writes came to: that what is replayed is what was put into the blocks, all of it in order and as one
+-- log, which answers belong to which block, what becomes of the log after a block (`afterBlock`), and when the turns go on. No contract can
+-- say what the reads and the writes came to, or that the system was asked for them: Filling.antt and Writing.antt say where that is read.
 use Rattle.ranks.specs.Prelude.{ℕ, suc, _*_, _≡_, Bool, true, false, List, [], _++_, length, take, ltb}
 use Rattle.ranks.specs.Lists.{if_then_else_}
 use Rattle.records.specs.Bytes.{Tables}
@@ -8,8 +10,8 @@ use Rattle.runs.specs.Replay.{replayed}
 use Rattle.logio.specs.declared.reading.Filled.{Filled}
 use Rattle.logio.specs.declared.input.Ending.{Ending}
 use Rattle.logio.specs.declared.input.Ending.the-variants.{GoesOn, Complete, NotRead, NotWritten}
-use Rattle.logio.specs.Reading.{standardInput, Fills}
-use Rattle.logio.specs.Writing.{standardOutput, WritesAnswers, inputName, outputName, Says}
+use Rattle.logio.specs.Filling.{standardInput, Fills}
+use Rattle.logio.specs.Writing.{standardOutput, WritesAnswers, inputName, outputName, lengthName, Says}
 
 -- a block has whole records
 abbrev pub blockBytes : ℕ
@@ -25,13 +27,14 @@ goesOn Complete = false
 goesOn NotRead = false
 goesOn NotWritten = false
 
--- What becomes of a log once `bytes`, the answers of `n` bytes of a block, were written to standard output.
+-- What becomes of a log after `n` bytes of a block, whose answers are `bytes`. `done` stands for what a write of them to standard output
+-- came to; where nobody asks for answers, it is true.
 pub record Finished (answering : Bool) (n : ℕ) (failed : Bool) (bytes : List ℕ) (ending : Ending) : Type 0 where
   pub done : Bool
   pub writes : WritesAnswers standardOutput answering bytes done
   pub comes : ending ≡ afterBlock n failed done
 
--- One turn: reads from standard input fill a block, what they put there is replayed, and its answers are written.
+-- One turn: reads fill a block, what they put there is replayed, and the answers to be written are the answers to it.
 pub record Turn (answering : Bool) (start : Tables) (ending : Ending) (left : Tables) : Type 0 where
   pub lent : List ℕ
   pub block : List ℕ
@@ -53,14 +56,22 @@ logOf (last c t e) = take (t .filled .n) (t .block)
 logOf (more c t e rest) = take (t .filled .n) (t .block) ++ logOf rest
 logOf (spent c e) = []
 
--- The turns of a log, of which the program makes no more than 2^64 - 1: the tables after them are those after the log, as a whole.
+-- the answers to be written in the turns: those to each block behind those to the blocks before
+unfoldable pub answersOf : {answering : Bool} {ending : Ending} {left : Tables} {count : ℕ} {start : Tables} → Turns answering ending left count start → List ℕ
+answersOf {start = start} (last c t e) = replayed start (take (t .filled .n) (t .block)) .answers
+answersOf {start = start} (more c t e rest) = replayed start (take (t .filled .n) (t .block)) .answers ++ answersOf rest
+answersOf (spent c e) = []
+
+-- The turns of a log, of which the program makes no more than 2^64 - 1: their answers are those to the log as a whole, and the tables
+-- after them are those after it.
 pub record ReplayedInTurns (answering : Bool) (start : Tables) (ending : Ending) (left : Tables) : Type 0 where
   pub turns : Turns answering ending left 18446744073709551615 start
+  pub answers : answersOf turns ≡ replayed start (logOf turns) .answers
   pub after : left ≡ replayed start (logOf turns) .after
 
--- What is said of a log: nothing where it was replayed to its end, and else what failed.
+-- What is said of a log: nothing where it was replayed to its end, and else what failed; where the turns are used up, the log's length.
 pub data Tells : Ending → Type 0 where
   nothing : Tells Complete
   input : Says inputName → Tells NotRead
   output : Says outputName → Tells NotWritten
-  endless : Says inputName → Tells GoesOn
+  endless : Says lengthName → Tells GoesOn

@@ -4,7 +4,7 @@ ghost use Prim.Native.Nat.{_*_, _≤_};
 ghost use lib.ListN.{length, take};
 ghost use Rattle.manager.specs.Outcomes.{tables};
 ghost use Rattle.runs.specs.Replay.{countOf, replayedFront};
-ghost use Rattle.logio.specs.Reading.{Fills};
+ghost use Rattle.logio.specs.Filling.{Fills};
 use crate::reading::Input;
 use crate::reading::fill;
 use runs::replay::record_count;

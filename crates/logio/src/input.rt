@@ -16,13 +16,13 @@ use crate::writing::write_answers;
 
 // What became of a log.
 pub enum Ending {
-    GoesOn, // it may have more blocks
+    GoesOn, // it may have more blocks; so ends only a run of 2^64 - 1 of them, which no input has
     Complete, // it was replayed to its end
     NotRead, // a read failed
     NotWritten, // answers could not be written
 }
 
-// What became of a log after n bytes of a block, whose answers are written if all is done.
+// What became of a log after n bytes of a block. `failed`: a read failed. `done`: their answers were written, or nobody asked for them.
 fn after_block(n: usize, failed: bool, done: bool) -> Ending
     ensures { λ r. ⌜ r ≡ afterBlock n failed done ⌝ }
 {
@@ -89,7 +89,7 @@ pub fn replay_input(queues: &mut [u8], pool: &mut [u8], tasks: &mut [u8], answer
     Ending::GoesOn
 }
 
-// Says on standard error what failed, where a log was not replayed to its end.
+// Says on standard error why a log was not replayed to its end.
 pub fn tell(e: Ending)
     ensures { λ _. ⌜ Tells e ⌝ }
 {
@@ -97,6 +97,6 @@ pub fn tell(e: Ending)
         Ending::Complete => {}
         Ending::NotWritten => say_failed(b"standard output"),
         Ending::NotRead => say_failed(b"standard input"),
-        Ending::GoesOn => say_failed(b"standard input"),
+        Ending::GoesOn => say_failed(b"length of the log"),
     }
 }

@@ -3,7 +3,7 @@ ghost use mathlib.Core.Path.{_≡_};
 ghost use Prim.Native.Nat.{_-_, _≤_};
 ghost use lib.ListN.{length};
 ghost use Rattle.libc.specs.Io.{Moved};
-ghost use Rattle.logio.specs.Reading.{standardInput, ReadBehind, afterRead, ReadMore, Fills};
+ghost use Rattle.logio.specs.Filling.{standardInput, ReadBehind, afterRead, ReadMore, Fills};
 use libc::STDIN_FILENO;
 
 // A descriptor that is read.

@@ -100,7 +100,7 @@ struct LogProgress {
 }
 
 // After a block of `n` records, all of whose answers are as stored or only those of the first `same`.
-fn after_block(p: LogProgress, n: usize, equal: bool, same: usize, more: bool) -> LogProgress {
+fn with_block(p: LogProgress, n: usize, equal: bool, same: usize, more: bool) -> LogProgress {
     let first = if p.equal {
         wrapping_add_u64(p.records, same as u64)
     } else {
@@ -132,7 +132,7 @@ fn next_block(
     let m = s.n;
     let same = agreeing(&answers[..end], &stored[..m]);
     let equal = (same == end) & (same == m) & !b.failed & !s.failed;
-    after_block(p, end / 16, equal, same / 16, b.n == BLOCK)
+    with_block(p, end / 16, equal, same / 16, b.n == BLOCK)
 }
 
 // The whole log. The loop counts its turns down, since nothing says that a log ends.

@@ -1,20 +1,34 @@
 -- `logio::fresh::fresh` meets its contract. Assumes nothing.
 use borrow.Author.Needs.{needs}
-use mathlib.Core.Path.{ap}
-use mathlib.Core.List.{flatten}
+use mathlib.Core.Bool.{true, _&&_}
+use mathlib.Core.List.{List}
+use mathlib.Core.Path.{_≡_, refl, ap, _∙_}
+use Prim.Native.Nat.{ℕ}
 use lib.ListN.{replicate}
-use Rattle.records.specs.Bytes.{Tables, encode, encodeQueue, encodeBuffer, toLittleEndian}
-use Rattle.records.specs.Records.{fresh}
-use Rattle.specification.specs.Run.{freshTables}
+use Rattle.ranks.specs.Lists.{allTrue, mapWithIndex, mapFromIndex, within, numbersFrom}
+use Rattle.records.specs.Bytes.{Tables, rightLengths}
+use Rattle.specification.specs.Run.{goodPriorities, freshTables}
+use Rattle.runs.specs.Fresh.{MadeFresh, madeFresh}
 use Rattle.logio.proofs.fresh.fresh.Statement.{statement}
 use Rattle.logio.proofs.fresh.fresh.Tie as tie
 
-fresh-tasks-requires : tie.Need-fresh-tasks-requires
-fresh-tasks-requires c κs = search needs
+abbrev zeros : Tables
+zeros = record { queues = replicate 256 0; pool = replicate 8192 0; tasks = replicate 4352 0 }
+
+-- the lengths and the priorities are right
+right : (rightLengths zeros && goodPriorities (numbersFrom 1 32)) ≡ true
+unfolding rightLengths goodPriorities numbersFrom allTrue mapWithIndex mapFromIndex within
+right = refl
+
+made : madeFresh zeros (numbersFrom 1 32) ≡ record { done = true; after = freshTables (numbersFrom 1 32) }
+unfolding madeFresh
+made = rw right refl
 
 returns : tie.Need-returns
-unfolding freshTables encode encodeQueue encodeBuffer toLittleEndian fresh flatten
-returns c = ap (λ t. record { queues = replicate 256 0; pool = replicate 8192 0; tasks = t }) (c .fresh-tasks .ensures)
+returns c =
+    let m = c .before .before .before .make-fresh in
+    let p = c .before .before .before .before .before .before .before .before .priorities in
+    ap (λ (r : MadeFresh). r .after) (m .ensures ∙ ap (madeFresh zeros) (p .ensures) ∙ made)
 
 pub fresh-spec : {M : Type 1} → statement M
-fresh-spec = tie.close (tie.spec fresh-tasks-requires returns)
+fresh-spec = tie.close (tie.spec (search needs) (search needs) (search needs) (search needs) (search needs) (search needs) returns)

@@ -9,7 +9,7 @@ use Rattle.records.specs.Bytes.{Tables}
 use Rattle.manager.specs.Outcomes.{tables}
 use Rattle.logio.specs.declared.input.Ending.{Ending}
 use Rattle.logio.specs.Turns.{Turns, last, more, spent}
-use Rattle.logio.proofs.Blocks.{after-turns}
+use Rattle.logio.proofs.Blocks.{in-turns}
 use Rattle.logio.proofs.input.replay_input.Statement.{statement}
 use Rattle.logio.proofs.input.replay_input.Tie as tie
 
@@ -31,8 +31,7 @@ returns c =
     let v = t .before .before .before .before .before .loop in
     let fewer : v .turns ≡ suc (v .turns - 1) = omega (arith, t .before .before .before .before .loop-test .taken) in
     let ends = sym (c .before .goes-on .ensures) ∙ not-true _ (c .if1 .taken) in
-    let turns = v .inv .0 _ _ (last fewer (t .turn .ensures) ends) in
-    record { turns = turns; after = after-turns turns }
+    in-turns (v .inv .0 _ _ (last fewer (t .turn .ensures) ends))
 
 loop-again : tie.Need-loop-again Inv-loop μ-loop
 loop-again c =
@@ -46,8 +45,7 @@ returns-2 : tie.Need-returns-2 Inv-loop μ-loop
 returns-2 c =
     let v = c .before .loop in
     let none : v .turns ≡ 0 = omega arith in
-    let turns = v .inv .0 _ _ (spent none refl) in
-    record { turns = turns; after = after-turns turns }
+    in-turns (v .inv .0 _ _ (spent none refl))
 
 pub replay-input-spec : {M : Type 1} → statement M
 replay-input-spec =

@@ -2,7 +2,7 @@
 use borrow.Author.Needs.{needs}
 use mathlib.Core.Path.{sym, subst}
 use Rattle.logio.specs.Turns.{Tells, nothing, input, output, endless}
-use Rattle.logio.specs.Writing.{inputName, outputName}
+use Rattle.logio.specs.Writing.{inputName, outputName, lengthName}
 use Rattle.logio.proofs.input.tell.Statement.{statement}
 use Rattle.logio.proofs.input.tell.Tie as tie
 
@@ -18,7 +18,7 @@ unfolding inputName
 returns-3 c = subst Tells (sym (c .before .before .enum-told3 .given .1)) (input (c .say-failed2 .ensures))
 
 returns-4 : tie.Need-returns-4
-unfolding inputName
+unfolding lengthName
 returns-4 c = subst Tells (sym (c .before .before .enum-told4 .given .1)) (endless (c .say-failed3 .ensures))
 
 pub tell-spec : {M : Type 1} → statement M

@@ -13,7 +13,7 @@ use lib.IntN.{ℤ, pos, negsuc, natAbs}
 use lib.Signed.{ltZ, nonNeg}
 use Rattle.libc.specs.Io.{Moved}
 use Rattle.logio.specs.declared.reading.Read.the-variants.{More, Ended, Failed}
-use Rattle.logio.specs.Reading.{afterRead}
+use Rattle.logio.specs.Filling.{afterRead}
 use Rattle.logio.proofs.reading.after_read.Statement.{statement}
 use Rattle.logio.proofs.reading.after_read.Tie as tie
 

@@ -8,7 +8,7 @@ use lib.ListN.{length}
 use Rattle.logio.specs.declared.reading.Filled.{Filled}
 use Rattle.logio.specs.declared.reading.Read.{Read}
 use Rattle.logio.specs.declared.reading.Read.the-variants.{More}
-use Rattle.logio.specs.Reading.{ReadMore, Fills, full, ended, failed, more}
+use Rattle.logio.specs.Filling.{ReadMore, Fills, full, ended, failed, more}
 use Rattle.logio.proofs.Added.{room-left}
 use Rattle.logio.proofs.reading.fill.Statement.{statement}
 use Rattle.logio.proofs.reading.fill.Tie as tie

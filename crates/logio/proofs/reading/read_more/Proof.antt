@@ -6,7 +6,7 @@ use native.Mathlib.Omega.{arith}
 use Prim.Native.Nat.{ℕ, _-_}
 use mathlib.Core.Path.{_≡_, sym, ap, subst, _∙_}
 use Rattle.libc.specs.Io.{Moved}
-use Rattle.logio.specs.Reading.{afterRead}
+use Rattle.logio.specs.Filling.{afterRead}
 use Rattle.logio.proofs.reading.read_more.Statement.{statement}
 use Rattle.logio.proofs.reading.read_more.Tie as tie
 

@@ -1,5 +1,8 @@
--- A buffer filled by reads. No contract can say which bytes a call of the system reads, or how many; it can say what was asked of the
--- system, and what follows from its answers.
+-- A buffer filled by reads.
+-- Exact are what an answer of the system comes to (`afterRead`), and that the bytes already in the buffer stay; `Fills` says when reads with
+-- such answers go on. No contract can say which bytes the system hands over, which answer it gives, or that it was asked at all: code that
+-- made an answer up would meet `ReadMore` and `Fills` too. That `read_behind` asks the system, with that descriptor and for bytes behind
+-- the first `n`, is read in its body, a line, and shown by runs.
 use Rattle.ranks.specs.Prelude.{ℕ, zero, suc, _+_, _-_, _≡_, true, false, List, length, take}
 use lib.IntN.{ℤ, pos, negsuc}
 use Rattle.libc.specs.Io.{Moved}
@@ -11,20 +14,20 @@ use Rattle.logio.specs.declared.reading.Read.the-variants.{More, Ended, 
 abbrev pub standardInput : Input
 standardInput = record { fd = pos 0 }
 
--- A read from a descriptor behind the first `n` bytes of a buffer, which the system answers with `got`: the bytes already there stay.
--- The descriptor is the one that the system was asked to read; nothing follows from it.
+-- `got` is an answer that the system may give to a read behind the first `n` bytes of a buffer, and the bytes already there stay.
+-- `from` names the descriptor; nothing follows from it.
 pub record ReadBehind (from : Input) (n : ℕ) (old : List ℕ) (got : ℤ) (new : List ℕ) : Type 0 where
   pub moved : Moved (length old - n) got
   pub kept : take n new ≡ take n old
   pub size : length new ≡ length old
 
--- What it comes to: an answer below 0 is a failure, and 0 is the end of the input.
+-- What an answer comes to: below 0 it is a failure, and 0 is the end of the input.
 unfoldable pub afterRead : ℕ → ℤ → Read
 afterRead n (negsuc k) = Failed
 afterRead n (pos zero) = Ended
 afterRead n (pos (suc k)) = More (n + suc k)
 
--- A read behind the first `n` bytes comes to `read`.
+-- A read behind the first `n` bytes comes to `read`, by an answer that the system may give.
 pub record ReadMore (from : Input) (n : ℕ) (old : List ℕ) (read : Read) (new : List ℕ) : Type 0 where
   pub got : ℤ
   pub behind : ReadBehind from n old got new

@@ -95,21 +95,21 @@ impl Totals {
 struct LogProgress {
     records: u64, // answered
     equal: bool, // all answers, so far
-    first: u64, // the record whose answer differs first
+    differs_at: u64, // the record whose answer differs first
     more: bool, // the log may go on
 }
 
 // After a block of `n` records, all of whose answers are as stored or only those of the first `same`.
 fn with_block(p: LogProgress, n: usize, equal: bool, same: usize, more: bool) -> LogProgress {
-    let first = if p.equal {
+    let differs_at = if p.equal {
         wrapping_add_u64(p.records, same as u64)
     } else {
-        p.first
+        p.differs_at
     };
     LogProgress {
         records: wrapping_add_u64(p.records, n as u64),
         equal: p.equal & equal,
-        first,
+        differs_at,
         more,
     }
 }
@@ -146,7 +146,7 @@ fn compare_answers(
     let mut p = LogProgress {
         records: 0,
         equal: true,
-        first: 0,
+        differs_at: 0,
         more: true,
     };
     let mut turns = u64::MAX;
@@ -159,7 +159,7 @@ fn compare_answers(
 
 struct Compared {
     equal: bool,
-    first: usize, // the byte of the image that differs first
+    differs_at: usize, // the byte of the image that differs first
 }
 
 // "An image is the three tables in this order, 12,800 bytes." Room for one byte more shows a stored image that is too long.
@@ -176,10 +176,10 @@ fn compare_image(
     let mut stored = [0u8; 12801];
     let f = fill(from, &mut stored);
     let n = f.n;
-    let first = agreeing(&image, &stored[..n]);
+    let differs_at = agreeing(&image, &stored[..n]);
     Compared {
-        equal: (first == 12800) & (n == 12800),
-        first,
+        equal: (differs_at == 12800) & (n == 12800),
+        differs_at,
     }
 }
 
@@ -202,14 +202,14 @@ fn tell_log(name: &[u8], p: LogProgress, c: Compared) {
         print(b"equal, image ");
     } else {
         print(b"differ first at record ");
-        print_number(p.first);
+        print_number(p.differs_at);
         print(b", image ");
     }
     if c.equal {
         print(b"equal\n");
     } else {
         print(b"differs first at byte ");
-        print_number(c.first as u64);
+        print_number(c.differs_at as u64);
         print(b"\n");
     }
 }

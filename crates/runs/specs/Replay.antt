@@ -35,6 +35,12 @@ unfoldable pub callOf : LogCall → (message : List ℕ) → Call
 callOf (By caller directive) message = call caller (directiveOf directive message)
 callOf Tick message = tick
 
+-- what a reader found is a call
+unfoldable pub isCall : LogResult → Bool
+isCall (WellFormed c) = true
+isCall Malformed = false
+isCall End = false
+
 -- A well-formed call is done; anything else "is 16", and is no call.
 unfoldable pub outcomeFor : Tables → LogResult → (message : List ℕ) → Outcome Tables
 outcomeFor t (WellFormed c) message = step t (callOf c message)

@@ -3,7 +3,7 @@ ghost use mathlib.Core.Path.{_≡_};
 ghost use Rattle.specification.specs.Call.{call};
 ghost use Rattle.specification.specs.Step.{step};
 ghost use Rattle.manager.specs.Outcomes.{answerOf, tables, outcomeOf, Tested};
-ghost use Rattle.runs.specs.Replay.{directiveOf, callOf, outcomeFor, answerRecord};
+ghost use Rattle.runs.specs.Replay.{directiveOf, callOf, isCall, outcomeFor, answerRecord};
 use crate::perform::perform;
 use crate::perform::word_of;
 use calllog::answers::answer_bytes;
@@ -89,7 +89,18 @@ pub fn answer(
     }
 }
 
-// The same on any tables.
+// What a reader found is a call.
+fn is_call(found: LogResult) -> bool
+    ensures { λ r. ⌜ r ≡ isCall found ⌝ }
+{
+    match found {
+        LogResult::WellFormed(_) => true,
+        LogResult::Malformed => false,
+        LogResult::End => false,
+    }
+}
+
+// What a reader found, on any tables. Only a call has them searched.
 pub fn answer_searching(
     queues: &mut [u8],
     pool: &mut [u8],
@@ -100,6 +111,9 @@ pub fn answer_searching(
     ensures { λ r. ⌜ outcomeOf r (tables (now (queues .exit)) (now (pool .exit)) (now (tasks .exit)))
         ≡ outcomeFor (tables (now (queues .entry)) (now (pool .entry)) (now (tasks .entry))) found (now (field .entry)) ⌝ }
 {
+    if !is_call(found) {
+        return Answer::Refused(RefusalStatus::BadShape);
+    }
     let verdict = table_refusal(queues, pool, tasks);
     answer(queues, pool, tasks, found, field, verdict)
 }

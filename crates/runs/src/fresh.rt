@@ -1,4 +1,4 @@
-// Fresh tables: "A run [...] starts on fresh tables."
+// Fresh tables, on which a run starts: "It starts on fresh tables."
 ghost use mathlib.Core.Path.{_≡_};
 ghost use mathlib.Core.Bool.{true};
 ghost use lib.ListN.{length};

@@ -13,10 +13,11 @@ use borrow.Author.Tests.{eq-eqb, ne-eqb, le-ltb, lt-ltb}
 use Rattle.ranks.specs.Lists.{if_then_else_, allTrue, allZero}
 use Rattle.ranks.specs.Table.{slice, byte}
 use Rattle.ranks.proofs.Lists.{all-cons, all-nil, zeros-cons, zeros-nil}
+use Rattle.records.specs.Layout.{capacity}
 use Rattle.records.specs.Bytes.{fromLittleEndian}
 use Rattle.records.proofs.ZeroBytes.{zero-number}
 use Rattle.calllog.specs.declared.call.LogResult.the-variants.{Malformed, End}
-use Rattle.calllog.specs.CallLog.{Field, operation, caller, option, size, id, ticks, limit, maxSize, message, _of_, rows, rowOf, names, bitsIn, bitsOf, keepsRow, callWith, callIn, readRecord, readAt, placeAfter}
+use Rattle.calllog.specs.CallLog.{messagePlace, recordWidth, Field, operation, caller, option, size, id, ticks, limit, maxSize, message, bytesOf, messageOf, _of_, rows, rowOf, names, bitsIn, bitsOf, keepsRow, callWith, callIn, readRecord, readAt, placeAfter}
 
 -- ---- Numbers in fields
 
@@ -66,24 +67,24 @@ in-order : (a b c d e f g h i j k : Bool)
     → (a && b && c && d && e && f && g && h && i && j && k) ≡ allTrue (allTrue (a ∷ b ∷ c ∷ d ∷ e ∷ f ∷ g ∷ h ∷ []) ∷ i ∷ j ∷ k ∷ [])
 in-order a b c d e f g h i j k = simp (all-cons, all-nil, and-assoc, and-true)
 
-module _ (r : List ℕ) (whole : length r ≡ 136) where
-  to-message : drop 16 r ≡ slice 16 120 r
+module _ (r : List ℕ) (whole : length r ≡ recordWidth) where
+  to-message : messageOf r ≡ bytesOf message r
   unfolding slice
-  to-message = sym (take-all 120 (drop 16 r) (omega (arith, length-drop 16 r)))
+  to-message = sym (take-all capacity (messageOf r) (omega (arith, length-drop messagePlace r)))
 
   zero-at : (n at : ℕ) → n ≡ fromLittleEndian (slice at 4 r) → eqb n 0 ≡ allZero (slice at 4 r)
   zero-at n at e = ap (λ (m : ℕ). eqb m 0) e ∙ zero-number (slice at 4 r)
 
   -- the code's tests of a record
   module _ (k row : ℕ) (e : row ≡ bitsOf (rowOf k)) (i t : ℕ) (p : i ≡ fromLittleEndian (slice 4 4 r)) (q : t ≡ fromLittleEndian (slice 8 4 r))
-      (m : Bool) (n : m ≡ allZero (drop 16 r)) (z : Bool) (o : z ≡ allZero (drop (byte 3 r) (drop 16 r))) where
+      (m : Bool) (n : m ≡ allZero (messageOf r)) (z : Bool) (o : z ≡ allZero (drop (byte 3 r) (messageOf r))) where
     bit-is : (field : Field) (bit : ℕ) → map (λ (row : List Field). has (bitsOf row) bit) rows ≡ map (λ (row : List Field). names row field) rows
         → has row bit ≡ names (rowOf k) field
     bit-is field bit same = ap (λ (b : ℕ). has b bit) e ∙ bit-named field bit k same
 
     pub keeps : ((has row 1 || eqb (byte 1 r) 0) && (has row 2 || eqb (byte 2 r) 0) && (has row 4 || eqb (byte 3 r) 0) && (has row 8 || eqb i 0)
         && (has row 16 || eqb t 0) && (has row 32 || eqb (byte 12 r) 0) && (has row 64 || eqb (byte 13 r) 0) && (has row 128 || m)
-        && (eqb (byte 14 r) 0 && eqb (byte 15 r) 0) && leb (byte 3 r) 120 && z) ≡ keepsRow (rowOf k) r
+        && (eqb (byte 14 r) 0 && eqb (byte 15 r) 0) && leb (byte 3 r) capacity && z) ≡ keepsRow (rowOf k) r
     unfolding keepsRow rows names bitsOf bitsIn
     keeps =
         in-order _ _ _ _ _ _ _ _ _ _ _
@@ -92,7 +93,7 @@ module _ (r : List ℕ) (whole : length r ≡ 136) where
         ((bit-is caller 1 refl j || zero-byte 1 r j) ∷ (bit-is option 2 refl j || zero-byte 2 r j) ∷ (bit-is size 4 refl j || zero-byte 3 r j)
         ∷ (bit-is id 8 refl j || zero-at i 4 p j) ∷ (bit-is ticks 16 refl j || zero-at t 8 q j) ∷ (bit-is limit 32 refl j || zero-byte 12 r j)
         ∷ (bit-is maxSize 64 refl j || zero-byte 13 r j) ∷ (bit-is message 128 refl j || (n ∙ ap allZero to-message) j) ∷ [])
-        ∷ two-zeros 14 r (omega arith) j ∷ leb (one-byte 3 r j) 120
+        ∷ two-zeros 14 r (omega arith) j ∷ leb (one-byte 3 r j) capacity
         ∷ (o ∙ (λ j. allZero (drop (one-byte 3 r j) (to-message j)))) j ∷ []))
 
 -- ---- The call of an operation
@@ -134,12 +135,12 @@ call-other r h =
 
 -- ---- What a record says
 
-pub record-kept : (r : List ℕ) → length r ≡ 136 → (b : Bool) (k : ℕ) → k ≡ byte 0 r → b ≡ keepsRow (rowOf k) r
+pub record-kept : (r : List ℕ) → length r ≡ recordWidth → (b : Bool) (k : ℕ) → k ≡ byte 0 r → b ≡ keepsRow (rowOf k) r
     → readRecord r ≡ (if b then callIn r else Malformed)
 unfolding readRecord
 record-kept r whole b k e p =
     ap (λ (c : Bool). if c then callIn r else Malformed)
-    (ap (λ (c : Bool). c && keepsRow (rowOf (operation of r)) r) (eq-eqb (length r) 136 whole)
+    (ap (λ (c : Bool). c && keepsRow (rowOf (operation of r)) r) (eq-eqb (length r) recordWidth whole)
     ∙ ap (λ (n : ℕ). keepsRow (rowOf n) r) (sym (e ∙ one-byte 0 r)) ∙ sym p)
 
 -- ---- What a reader finds
@@ -149,13 +150,13 @@ module _ (log : List ℕ) (at : ℕ) where
   unfolding readAt
   read-end h = simp (le-ltb at (length log) h)
 
-  pub read-short : at < length log → length log < at + 136 → readAt log at ≡ Malformed
+  pub read-short : at < length log → length log < at + recordWidth → readAt log at ≡ Malformed
   unfolding readAt readRecord slice
   read-short h g =
-      let e : length (take 136 (drop at log)) ≡ 136 → ⊥ = (λ e. omega (arith, length-take 136 (drop at log), length-drop at log)) in
-      simp (lt-ltb at (length log) h, ne-eqb (length (take 136 (drop at log))) 136 e)
+      let e : length (take recordWidth (drop at log)) ≡ recordWidth → ⊥ = (λ e. omega (arith, length-take recordWidth (drop at log), length-drop at log)) in
+      simp (lt-ltb at (length log) h, ne-eqb (length (take recordWidth (drop at log))) recordWidth e)
 
-  pub read-whole : at + 136 ≤ length log → (n : ℕ) → n ≡ 136 → readRecord (take n (drop at log)) ≡ readAt log at
+  pub read-whole : at + recordWidth ≤ length log → (n : ℕ) → n ≡ recordWidth → readRecord (take n (drop at log)) ≡ readAt log at
   unfolding readAt slice
   read-whole h n e = ap (λ (m : ℕ). readRecord (take m (drop at log))) e ∙ simp (lt-ltb at (length log) (omega arith))
 
@@ -163,6 +164,6 @@ module _ (log : List ℕ) (at : ℕ) where
   unfolding placeAfter
   place-end h = simp (le-ltb at (length log) h)
 
-  pub place-inside : at < length log → (n : ℕ) → n ≡ min (at + 136) (length log) → n ≡ placeAfter log at
+  pub place-inside : at < length log → (n : ℕ) → n ≡ min (at + recordWidth) (length log) → n ≡ placeAfter log at
   unfolding placeAfter
   place-inside h n e = simp (lt-ltb at (length log) h) e

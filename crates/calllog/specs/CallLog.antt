@@ -1,7 +1,8 @@
 -- Document 01, "The call log": what the bytes of a log say.
-use Rattle.ranks.specs.Prelude.{ℕ, _+_, _*_, min, Bool, false, _&&_, _||_, List, [], _∷_, _++_, map, length, getD, drop, replicate, eqb, leb, ltb}
+use Rattle.ranks.specs.Prelude.{ℕ, _+_, _-_, _*_, _/_, min, Bool, false, _&&_, _||_, List, [], _∷_, _++_, map, length, getD, drop, replicate, eqb, leb, ltb}
 use Rattle.ranks.specs.Lists.{if_then_else_, allTrue, allZero}
 use Rattle.ranks.specs.Table.{slice}
+use Rattle.records.specs.Layout.{capacity}
 use Rattle.records.specs.Bytes.{fromLittleEndian, toLittleEndian}
 use Rattle.calllog.specs.declared.call.Directive.the-variants.{Create, Ident, Delete, Send, Urgent, Broadcast, Receive, Pending, Flush}
 use Rattle.calllog.specs.declared.call.Call.the-variants.{By, Tick}
@@ -11,9 +12,13 @@ use Rattle.calllog.specs.declared.reader.Reading.{Reading}
 
 -- ---- The fields of a record
 
+-- "16-135 message"
+abbrev pub messagePlace : ℕ
+messagePlace = 16
+
 -- "A call record is 136 bytes"
 abbrev pub recordWidth : ℕ
-recordWidth = 136
+recordWidth = messagePlace + capacity
 
 -- some bytes of a record: the place of the first, and how many
 pub record Field : Type 0 where
@@ -61,7 +66,7 @@ reserved = bytes 14 2
 
 -- "16-135 message"
 abbrev pub message : Field
-message = bytes 16 120
+message = bytes messagePlace capacity
 
 -- the fields that a row may name
 abbrev pub fields : List Field
@@ -77,7 +82,7 @@ _of_ field r = fromLittleEndian (bytesOf field r)
 
 -- the bytes from the message field's place on, which a short part may not have
 abbrev pub messageOf : List ℕ → List ℕ
-messageOf r = drop (message .place) r
+messageOf r = drop messagePlace r
 
 -- ---- The rows: "A fixed row per operation says which fields it may use".
 
@@ -129,7 +134,7 @@ keepsRow row r =
     -- "14-15 zero"
     ∷ allZero (bytesOf reserved r)
     -- "a size above 120"
-    ∷ leb (size of r) 120
+    ∷ leb (size of r) capacity
     -- "message, zero after its size"
     ∷ allZero (drop (size of r) (bytesOf message r))
     ∷ [])
@@ -167,11 +172,19 @@ readAt log at = if ltb at (length log) then readRecord (slice at recordWidth log
 unfoldable pub placeAfter : (log : List ℕ) (at : ℕ) → ℕ
 placeAfter log at = if ltb at (length log) then min (at + recordWidth) (length log) else at
 
+-- how many records a log of `n` bytes has, a short last part counted
+unfoldable pub recordCount : (n : ℕ) → ℕ
+recordCount n = (n + (recordWidth - 1)) / recordWidth
+
 -- what a reader yields, and the place that it moves on to
 abbrev pub readingAt : (log : List ℕ) (at : ℕ) → Reading
 readingAt log at = record { result = readAt log at; next = placeAfter log at }
 
 -- ---- Answer records
+
+-- "An answer record is 16 bytes"
+abbrev pub answerWidth : ℕ
+answerWidth = 16
 
 -- "An answer record is 16 bytes: status, first byte of the call, 0, 0, value, mask, four zeros."
 unfoldable pub answerBytes : (status firstByte value mask : ℕ) → List ℕ

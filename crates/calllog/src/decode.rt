@@ -2,10 +2,12 @@
 ghost use mathlib.Core.Path.{_≡_};
 ghost use lib.ListN.{length, drop};
 ghost use Rattle.ranks.specs.Lists.{allZero};
-ghost use Rattle.calllog.specs.CallLog.{rowOf, keepsRow, callIn, readRecord, readAt, placeAfter};
+ghost use Rattle.calllog.specs.CallLog.{recordWidth, messageOf, rowOf, keepsRow, callIn, readRecord, readAt, placeAfter, recordCount};
 use crate::call::Call;
 use crate::call::Directive;
 use crate::call::LogResult;
+use crate::layout::MESSAGE_PLACE;
+use crate::layout::RECORD_WIDTH;
 use crate::rows::CALLER;
 use crate::rows::ID;
 use crate::rows::LIMIT;
@@ -17,18 +19,30 @@ use crate::rows::TICKS;
 use crate::rows::row_of;
 use records::bytes::read_u32;
 use records::bytes::wide;
+use records::layout::CAPACITY;
 use records::zeros::zeros_from;
+
+// The message field of a record, which a short part may not have.
+pub fn message_field(part: &[u8]) -> &[u8]
+    ensures { λ r. ⌜ now r ≡ messageOf (now (part .entry)) ⌝ }
+{
+    let n = part.len();
+    if n < MESSAGE_PLACE {
+        return &part[n..];
+    }
+    &part[MESSAGE_PLACE..]
+}
 
 // "message, zero after its size"
 fn zero_after(r: &[u8], size: u8) -> bool
-    ensures { λ x. ⌜ x ≡ allZero (drop size (drop 16 (now (r .entry)))) ⌝ }
+    ensures { λ x. ⌜ x ≡ allZero (drop size (messageOf (now (r .entry)))) ⌝ }
 {
-    zeros_from(r, 16 + wide(size))
+    zeros_from(r, MESSAGE_PLACE + wide(size))
 }
 
 // "Anything else not zero, a size above 120" is malformed: a field that the row does not name is zero, and so is what follows the message.
 fn keeps_row(operation: usize, r: &[u8]) -> bool
-    requires { ⌜ length (now r) ≡ 136 ⌝ }
+    requires { ⌜ length (now r) ≡ recordWidth ⌝ }
     ensures { λ x. ⌜ x ≡ keepsRow (rowOf operation) (now (r .entry)) ⌝ }
 {
     let row = row_of(operation);
@@ -40,15 +54,15 @@ fn keeps_row(operation: usize, r: &[u8]) -> bool
         & (((row & TICKS) != 0) | (read_u32(r, 8) == 0))
         & (((row & LIMIT) != 0) | (r[12] == 0))
         & (((row & MAX_SIZE) != 0) | (r[13] == 0))
-        & (((row & MESSAGE) != 0) | zeros_from(r, 16))
+        & (((row & MESSAGE) != 0) | zeros_from(r, MESSAGE_PLACE))
         & ((r[14] == 0) & (r[15] == 0))
-        & (size <= 120)
+        & (size <= CAPACITY as u8)
         & zero_after(r, size)
 }
 
 // The call of a record's operation.
 fn call_of(r: &[u8]) -> LogResult
-    requires { ⌜ length (now r) ≡ 136 ⌝ }
+    requires { ⌜ length (now r) ≡ recordWidth ⌝ }
     ensures { λ x. ⌜ x ≡ callIn (now (r .entry)) ⌝ }
 {
     let operation = r[0];
@@ -111,7 +125,7 @@ fn call_of(r: &[u8]) -> LogResult
 
 // What a whole record says.
 fn decode_record(r: &[u8]) -> LogResult
-    requires { ⌜ length (now r) ≡ 136 ⌝ }
+    requires { ⌜ length (now r) ≡ recordWidth ⌝ }
     ensures { λ x. ⌜ x ≡ readRecord (now (r .entry)) ⌝ }
 {
     let operation = wide(r[0]);
@@ -128,22 +142,32 @@ pub fn decode(log: &[u8], at: usize) -> LogResult
     if log.len() <= at {
         return LogResult::End;
     }
-    if log.len() - at < 136 {
+    if log.len() - at < RECORD_WIDTH {
         return LogResult::Malformed;
     }
-    let end = at + 136;
+    let end = at + RECORD_WIDTH;
     decode_record(&log[at..end])
 }
 
 // The place after what stands at a place of a log.
-pub fn after(log: &[u8], at: usize) -> usize
+pub fn place_after(log: &[u8], at: usize) -> usize
     ensures { λ x. ⌜ x ≡ placeAfter (now (log .entry)) at ⌝ }
 {
     if log.len() <= at {
         return at;
     }
-    if log.len() - at <= 136 {
+    if log.len() - at <= RECORD_WIDTH {
         return log.len();
     }
-    at + 136
+    at + RECORD_WIDTH
+}
+
+// How many records a log of n bytes has, a short last part counted.
+pub fn record_count(n: usize) -> usize
+    ensures { λ r. ⌜ r ≡ recordCount n ⌝ }
+{
+    if n % RECORD_WIDTH == 0 {
+        return n / RECORD_WIDTH;
+    }
+    n / RECORD_WIDTH + 1
 }

@@ -2,8 +2,8 @@
 ghost use mathlib.Core.Path.{_≡_};
 ghost use Rattle.calllog.specs.CallLog.{readAt, placeAfter, readingAt};
 use crate::call::LogResult;
-use crate::decode::after;
 use crate::decode::decode;
+use crate::decode::place_after;
 
 // "A reader holds the lent log bytes and the place reached"
 pub struct LogReader<'a> {
@@ -35,7 +35,7 @@ pub fn current<'a>(r: LogReader<'a>) -> LogResult
 pub fn advanced<'a>(r: LogReader<'a>) -> LogReader<'a>
     ensures { λ x. ⌜ x ≡ record { log = r .entry .log; at = placeAfter (now (r .entry .log)) (r .entry .at) } ⌝ }
 {
-    let at = after(r.log, r.at);
+    let at = place_after(r.log, r.at);
     LogReader { log: r.log, at }
 }
 

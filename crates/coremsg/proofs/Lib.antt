@@ -1,6 +1,4 @@
 pub mod Changed
-pub mod Folds
-pub mod LeastFolds
-pub mod MaskFolds
-pub mod Searches
-pub mod Steps
+pub mod Moves
+pub mod OneTick
+pub mod Room

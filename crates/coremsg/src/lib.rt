@@ -1,6 +1,5 @@
-// What the directives do with messages and waiters: the queue handler below the directives.
-pub mod lookup; // lookup.rt: what the directives ask of a queue record
-pub mod masks; // masks.rt: masks of tasks
+// What the directives do with messages and waiters: the message queue handler, over the thread queue handler.
+pub mod clears; // clears.rt: what becomes of a queue with all of its messages or waiters
 pub mod messages; // messages.rt: the messages of a queue
-pub mod waiters; // waiters.rt: the tasks that wait in a queue
-pub mod waitrank; // waitrank.rt: the rank at which a task begins to wait
+pub mod steps; // steps.rt: what becomes of a queue's record and of its messages or waiters together
+pub mod ticks; // ticks.rt: what a tick does to one task

@@ -2,7 +2,7 @@
 use native.Mathlib.Omega.{arith}
 use native.Mathlib.Nat.{zero-add, suc-add, zero-mul, suc-mul, not-suc-le-zero}
 use borrow.Author.Tests.{ltb-false}
-use Prim.Native.Nat.{ℕ, zero, suc, _+_, _*_, _/_, _≤_, zero-le}
+use Prim.Native.Nat.{ℕ, zero, suc, _+_, _*_, _≤_, zero-le}
 use mathlib.Core.Bool.{Bool, true, false}
 use mathlib.Core.Path.{_≡_, refl, sym, ap, ap₂, subst, _∙_}
 use mathlib.Core.List.{List, [], _∷_, _++_, append-assoc}
@@ -12,15 +12,19 @@ use lib.Seq.{length-take-le, take-append-le, drop-append-le}
 use Rattle.ranks.specs.Lists.{if_then_else_}
 use Rattle.ranks.specs.Table.{records}
 use Rattle.records.specs.Bytes.{Tables}
-use Rattle.runs.specs.Replay.{Replayed, replayRecord, replayRecords, countOf, recordsOf, replayed}
+use Rattle.calllog.specs.CallLog.{recordWidth, answerWidth, recordCount}
+use Rattle.runs.specs.Replay.{Replayed, replayRecord, replayRecords, recordsOf, replayed}
+use Rattle.runs.proofs.Replays.{answers-size}
 use Rattle.logio.specs.declared.reading.Input.{Input}
 use Rattle.logio.specs.declared.reading.Filled.{Filled}
+use Rattle.logio.specs.declared.block.BlockReplayed.{BlockReplayed}
 use Rattle.logio.specs.declared.input.Ending.{Ending}
 use Rattle.logio.specs.declared.input.Ending.the-variants.{GoesOn, Complete}
 use Rattle.logio.specs.Filling.{standardInput, Fills, full, ended, failed, more}
-use Rattle.logio.specs.Turns.{blockBytes, afterBlock, goesOn, Finished, Turn, Turns, last, spent, logOf, answersOf, ReplayedInTurns}
+use Rattle.logio.specs.Turns.{blockRecords, blockBytes, ReplaysBlock, afterBlock, goesOn, Finished, Turn, Turns, last, spent, logOf, answersOf, ReplayedInTurns}
 use Rattle.logio.specs.Turns as Turns
 use Rattle.logio.proofs.Added.{room-left}
+use Rattle.logio.proofs.Room.{front-answers}
 
 -- a log's second part replayed on the tables that its first part leaves
 abbrev joined : Replayed → (Tables → Replayed) → Replayed
@@ -50,17 +54,17 @@ cut (suc j) k n a b e =
     ∙ ap (λ (rs : List (List ℕ)). take n a ∷ rs) (cut j k n (drop n a) b rest)
 
 -- the records of a log whose front has whole ones
-records-then : (j : ℕ) (a b : List ℕ) → length a ≡ j * 136 → recordsOf (a ++ b) ≡ recordsOf a ++ recordsOf b
-unfolding recordsOf countOf
+records-then : (j : ℕ) (a b : List ℕ) → length a ≡ j * recordWidth → recordsOf (a ++ b) ≡ recordsOf a ++ recordsOf b
+unfolding recordsOf recordCount
 records-then j a b e =
-    let whole : (length a + 135) / 136 ≡ j = omega arith in
-    let both : (length (a ++ b) + 135) / 136 ≡ j + (length b + 135) / 136 = omega (arith, length-append a b) in
-    ap (λ (m : ℕ). records m 136 (a ++ b)) both ∙ cut j _ 136 a b e ∙ ap (λ (m : ℕ). records m 136 a ++ recordsOf b) (sym whole)
+    let whole : recordCount (length a) ≡ j = omega arith in
+    let both : recordCount (length (a ++ b)) ≡ j + recordCount (length b) = omega (arith, length-append a b) in
+    ap (λ (m : ℕ). records m recordWidth (a ++ b)) both ∙ cut j _ recordWidth a b e ∙ ap (λ (m : ℕ). records m recordWidth a ++ recordsOf b) (sym whole)
 
 -- a log whose front is a whole block
 block-then : (t : Tables) (a b : List ℕ) → length a ≡ blockBytes → joined (replayed t a) (λ u. replayed u b) ≡ replayed t (a ++ b)
 unfolding replayed
-block-then t a b e = sym (ap (replayRecords t) (records-then 481 a b e) ∙ then-records t (recordsOf a) (recordsOf b))
+block-then t a b e = sym (ap (replayRecords t) (records-then blockRecords a b e) ∙ then-records t (recordsOf a) (recordsOf b))
 
 -- what the reads put into a buffer has room there
 filled-within : {from : Input} {f : Filled} {new old : List ℕ} {n : ℕ} → n ≤ length old → Fills from f new n old → (f .n ≤ length new) × (length new ≡ length old)
@@ -74,6 +78,14 @@ filled-within h (more {m = m} {next = next} r rest) =
     let room : m ≤ length next = omega (arith, r .behind .size) in
     let both = filled-within room rest in
     (both .0, both .1 ∙ r .behind .size)
+
+-- the answers to a block, from the room for them
+pub block-answers : {from : Input} {start left : Tables} {lent room log answers : List ℕ} {b : BlockReplayed} → ReplaysBlock from start lent room b log answers left
+    → (record { answers = take (b .end) answers; after = left }) ≡ replayed start (take (b .n) log)
+block-answers {start = start} {room = room} {log = log} {b = b} h =
+    let size = length-take-le (b .n) log (filled-within zero-le (h .fills) .0) in
+    let all = answers-size start (take (b .n) log) ∙ ap (λ (n : ℕ). recordCount n * answerWidth) size in
+    front-answers start (take (b .n) log) room (b .end) (h .ends ∙ sym all) (h .replays) .1
 
 -- where the log goes on, the block is full
 went-on : (n : ℕ) (failed done : Bool) → goesOn (afterBlock n failed done) ≡ true → blockBytes ≤ n
@@ -93,7 +105,7 @@ full-block t e =
 
 -- before the first block
 none-yet : (t : Tables) → (record { answers = []; after = t }) ≡ replayed t []
-unfolding replayed recordsOf countOf records replayRecords
+unfolding replayed recordsOf recordCount records replayRecords
 none-yet t = refl
 
 -- the answers of the turns, and the tables after them, are those of the whole log

@@ -2,20 +2,34 @@
 -- Exact are, by what the reads and the writes came to: that what is replayed is what was put into the blocks, all of it in order and as one
 -- log, which answers belong to which block, what becomes of the log after a block (`afterBlock`), and when the turns go on. No contract can
 -- say what the reads and the writes came to, or that the system was asked for them: Filling.antt and Writing.antt say where that is read.
-use Rattle.ranks.specs.Prelude.{ℕ, suc, _*_, _≡_, Bool, true, false, List, [], _++_, length, take, ltb}
+use Rattle.ranks.specs.Prelude.{ℕ, suc, _*_, _≤_, _≡_, Bool, true, false, List, [], _++_, length, take, ltb}
 use Rattle.ranks.specs.Lists.{if_then_else_}
 use Rattle.records.specs.Bytes.{Tables}
-use Rattle.calllog.specs.CallLog.{recordWidth}
-use Rattle.runs.specs.Replay.{replayed}
+use Rattle.calllog.specs.CallLog.{recordWidth, answerWidth, recordCount}
+use Rattle.runs.specs.Replay.{replayed, replayedFront}
+use Rattle.logio.specs.declared.reading.Input.{Input}
 use Rattle.logio.specs.declared.reading.Filled.{Filled}
+use Rattle.logio.specs.declared.block.BlockReplayed.{BlockReplayed}
 use Rattle.logio.specs.declared.input.Ending.{Ending}
 use Rattle.logio.specs.declared.input.Ending.the-variants.{GoesOn, Complete, NotRead, NotWritten}
 use Rattle.logio.specs.Filling.{standardInput, Fills}
 use Rattle.logio.specs.Writing.{standardOutput, WritesAnswers, inputName, outputName, lengthName, Says}
 
+-- how many records a block has
+abbrev pub blockRecords : ℕ
+blockRecords = 481
+
 -- a block has whole records
 abbrev pub blockBytes : ℕ
-blockBytes = 481 * recordWidth
+blockBytes = blockRecords * recordWidth
+
+-- Reads fill a block, and what they put there is replayed: the answers to it stand at the front of the room for them, and the bytes behind stay.
+pub record ReplaysBlock (from : Input) (start : Tables) (lent room : List ℕ) (b : BlockReplayed) (log answers : List ℕ) (left : Tables) : Type 0 where
+  pub inside : b .n ≤ length lent
+  pub ends : b .end ≡ recordCount (b .n) * answerWidth
+  pub within : b .end ≤ length room
+  pub fills : Fills from (record { n = b .n; failed = b .failed }) log 0 lent
+  pub replays : (record { answers = answers; after = left }) ≡ replayedFront start (take (b .n) log) room
 
 -- After `n` bytes of a block: a read failed, or a write, or the log was shorter than the block, or it may go on.
 abbrev pub afterBlock : (n : ℕ) (failed done : Bool) → Ending

@@ -1,20 +1,23 @@
 // A block of a log: as many whole records as fit a buffer, read and replayed.
-ghost use mathlib.Core.Path.{_≡_};
 ghost use Prim.Native.Nat.{_*_, _≤_};
-ghost use lib.ListN.{length, take};
-ghost use Rattle.manager.specs.Outcomes.{tables};
-ghost use Rattle.runs.specs.Replay.{countOf, replayedFront};
-ghost use Rattle.logio.specs.Filling.{Fills};
+ghost use lib.ListN.{length};
+ghost use Rattle.records.specs.Bytes.{tables};
+ghost use Rattle.calllog.specs.CallLog.{answerWidth, recordCount};
+ghost use Rattle.logio.specs.Turns.{ReplaysBlock};
 use crate::reading::Input;
 use crate::reading::fill;
-use runs::replay::record_count;
-use runs::replay::replay;
+use calllog::layout::ANSWER_WIDTH;
+use calllog::layout::RECORD_WIDTH;
+use runs::replay::replay_all;
 
-// The bytes of a block, which are 481 records.
-pub const BLOCK: usize = 65416;
+// How many records a block has.
+const BLOCK_RECORDS: usize = 481;
+
+// Their bytes.
+pub const BLOCK: usize = BLOCK_RECORDS * RECORD_WIDTH;
 
 // The bytes of their answers.
-pub const ANSWERS: usize = 7696;
+pub const ANSWERS: usize = BLOCK_RECORDS * ANSWER_WIDTH;
 
 // What became of a block of a log.
 pub struct BlockReplayed {
@@ -32,16 +35,13 @@ pub fn replay_block(
     log: &mut [u8],
     answers: &mut [u8],
 ) -> BlockReplayed
-    requires { ⌜ countOf (length (now log)) * 16 ≤ length (now answers) ⌝ }
-    ensures { λ r. ⌜ ((r .n ≤ length (now (log .entry))) × ((r .end ≡ countOf (r .n) * 16) × (r .end ≤ length (now (answers .entry)))))
-        × (Fills from (record { n = r .n; failed = r .failed }) (now (log .exit)) 0 (now (log .entry))
-        × ((record { answers = now (answers .exit); after = tables (now (queues .exit)) (now (pool .exit)) (now (tasks .exit)) })
-        ≡ replayedFront (tables (now (queues .entry)) (now (pool .entry)) (now (tasks .entry))) (take (r .n) (now (log .exit))) (now (answers .entry)))) ⌝ }
+    requires { ⌜ recordCount (length (now log)) * answerWidth ≤ length (now answers) ⌝ }
+    ensures { λ r. ⌜ ReplaysBlock from (tables (now (queues .entry)) (now (pool .entry)) (now (tasks .entry))) (now (log .entry)) (now (answers .entry))
+        r (now (log .exit)) (now (answers .exit)) (tables (now (queues .exit)) (now (pool .exit)) (now (tasks .exit))) ⌝ }
 {
     let f = fill(from, log);
     let n = f.n;
-    let end = record_count(n) * 16;
-    replay(queues, pool, tasks, &log[..n], answers);
+    let end = replay_all(queues, pool, tasks, &log[..n], answers);
     BlockReplayed {
         n,
         end,

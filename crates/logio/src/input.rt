@@ -2,7 +2,7 @@
 ghost use mathlib.Core.Path.{_≡_};
 ghost use Prim.Native.Nat.{_≤_};
 ghost use lib.ListN.{length, take};
-ghost use Rattle.manager.specs.Outcomes.{tables};
+ghost use Rattle.records.specs.Bytes.{tables};
 ghost use Rattle.logio.specs.Turns.{afterBlock, Finished, Turn, ReplayedInTurns, Tells};
 ghost use Rattle.logio.specs.Turns.{goesOn as Turns·goesOn};
 use crate::block::ANSWERS;

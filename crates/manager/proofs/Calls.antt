@@ -1,36 +1,26 @@
 -- A call is refused by the tests 16, 10 and 11, or does what its directive does. Assumes nothing.
-use Prim.Native.Nat.{ℕ, _*_, _≤_, _<_}
+use Prim.Native.Nat.{ℕ}
 use mathlib.Core.Path.{_≡_, refl, sym, ap, _∙_}
-use mathlib.Core.Bool.{Bool, true, false}
+use mathlib.Core.Bool.{true, false}
 use mathlib.Core.List.{List, [], _∷_, _++_}
-use lib.Dec.{eqb}
-use borrow.Author.Tests.{le-leb, lt-leb, not-false}
+use borrow.Author.Tests.{not-false}
 use Rattle.ranks.specs.Lists.{allTrue}
-use Rattle.ranks.specs.Table.{slice}
-use Rattle.records.specs.Records.{Task}
-use Rattle.records.specs.Bytes.{Tables, decodeTask, decode, rightLengths}
-use Rattle.records.specs.Status.{BAD-CALLER, statusNumber}
+use Rattle.records.specs.Bytes.{Tables, decode, rightLengths}
+use Rattle.records.specs.Status.{statusNumber}
 use Rattle.records.specs.declared.status.RefusalStatus.{RefusalStatus}
-use Rattle.records.proofs.Access.{task-at}
-use Rattle.records.proofs.Statuses.{not-zero}
-use Rattle.specification.specs.Answer.{Outcome, Refusal, refuseIfAny, firstStatus, _⇒_}
+use Rattle.records.specs.declared.status.Verdict.{Verdict}
+use Rattle.records.specs.declared.status.Verdict.the-variants.{Passed, Refused as Refused-verdict}
+use Rattle.records.proofs.Statuses.{not-zero, tells}
+use Rattle.specification.specs.Answer.{Outcome, Refusal, refuseIfAny, firstStatus}
 use Rattle.specification.specs.Call.{Directive, call, tick}
 use Rattle.specification.specs.Sound.{sound}
-use Rattle.specification.specs.Step.{badCaller, commonRefusals, ownRefusals, refusals, step, effect, encoded}
+use Rattle.specification.specs.Step.{commonRefusals, ownRefusals, refusals, step, effect, encoded}
 use Rattle.specification.proofs.Refused.{None, none-holds}
-use Rattle.manager.specs.Outcomes.{answerOf, outcomeOf, Callable, tableRefusals, callRefusals, accepted}
+use Rattle.common_refusals.proofs.FirstTests.{first-of-both}
+use Rattle.common_refusals.specs.Tested.{Callable, CallTested, tableRefusals, callRefusals}
+use Rattle.manager.specs.Outcomes.{outcomeOf, accepted}
 use Rattle.manager.specs.declared.answer.Answer.the-variants.{Refused}
 use Rattle.manager.proofs.Outcomes.{refused}
-
--- the first refusal of two lists
-first-of-both : (rs rs′ : List Refusal) → (firstStatus rs ≡ 0 → ⊥) → firstStatus rs ≡ firstStatus (rs ++ rs′)
-unfolding firstStatus
-first-of-both [] rs′ ne = absurd (ne refl)
-first-of-both (r ∷ rs) rs′ ne = go (r .holds) refl (first-of-both rs rs′)
-  where
-    go : (b : Bool) → r .holds ≡ b → ((firstStatus rs ≡ 0 → ⊥) → firstStatus rs ≡ firstStatus (rs ++ rs′)) → firstStatus (r ∷ rs) ≡ firstStatus (r ∷ rs ++ rs′)
-    go true h later = rw h
-    go false h later = rw h (later (λ z. ne (rw h z)))
 
 -- where none of the first list holds, the second decides
 second-decides : (t : Tables) (rs rs′ : List Refusal) (o : Outcome Tables) → None rs → refuseIfAny t (rs ++ rs′) o ≡ refuseIfAny t rs′ o
@@ -41,15 +31,6 @@ second-decides t (r ∷ rs) rs′ o none = rw (none .0) (second-decides t rs rs�
 module _ (t : Tables) (caller : ℕ) where
   abbrev First : ℕ → Type 0
   First n = n ≡ firstStatus (callRefusals t caller)
-
-  -- the test 11, as the code makes it
-  pub no-task : 32 ≤ caller → true ≡ badCaller (decode t) caller
-  unfolding badCaller
-  no-task h = rw (le-leb 32 caller h)
-
-  pub waits : caller < 32 → (state : ℕ) → state ≡ decodeTask (slice (caller * 136) 136 (t .tasks)) .state → eqb state 1 ≡ badCaller (decode t) caller
-  unfolding badCaller
-  waits h state e = rw (lt-leb 32 caller h) (ap (λ (n : ℕ). eqb n 1) (e ∙ ap (λ (w : Task). w .state) (sym (task-at t caller h))))
 
   module _ (directive : Directive) where
     both-lists : refusals t (call caller directive) ≡ callRefusals t caller ++ ownRefusals (decode t) (call caller directive)
@@ -68,22 +49,31 @@ module _ (t : Tables) (caller : ℕ) where
     none-of-them = none-holds (callRefusals t caller) refl passed
 
     pub callable : Callable t caller
-    callable = record { lengths = not-false _ (none-of-them .0); isSound = not-false _ (none-of-them .1 .0); ready = none-of-them .1 .1 .0 }
+    callable =
+        let (lengths, (isSound, (ready, _))) = none-of-them in
+        record { lengths = not-false _ lengths; isSound = not-false _ isSound; ready = ready }
 
     pub accepted-call : (directive : Directive) → accepted t caller directive ≡ step t (call caller directive)
     unfolding step refusals commonRefusals ownRefusals
     accepted-call directive = sym (second-decides t (callRefusals t caller) _ _ none-of-them)
 
+-- What the tests 16, 10 and 11 tell by their verdict.
+pub record Verdicts (t : Tables) (caller : ℕ) (directive : Directive) (verdict : Verdict) : Type 0 where
+  pub refuses : (s : RefusalStatus) → verdict ≡ Refused-verdict s → outcomeOf (Refused s) t ≡ step t (call caller directive)
+  pub mayCall : verdict ≡ Passed → Callable t caller
+  pub accepts : verdict ≡ Passed → accepted t caller directive ≡ step t (call caller directive)
+
+pub verdicts : (t : Tables) (caller : ℕ) (directive : Directive) (verdict : Verdict) → CallTested t caller verdict → Verdicts t caller directive verdict
+verdicts t caller directive verdict tested =
+    record {
+      refuses = λ s e. refused-call t caller directive s (tells e tested);
+      mayCall = λ e. callable t caller (tells e tested);
+      accepts = λ e. accepted-call t caller (tells e tested) directive;
+    }
+
 -- ---- The tests of the tables
 
-pub table-passed : (t : Tables) → 0 ≡ firstStatus (tableRefusals t) → (rightLengths t ≡ true) × (sound (decode t) ≡ true)
-unfolding allTrue
-table-passed t e = let none = none-holds (tableRefusals t) refl e in (not-false _ (none .0), not-false _ (none .1 .0))
-
 module _ (t : Tables) (s : RefusalStatus) (e : statusNumber s ≡ firstStatus (tableRefusals t)) where
-  pub table-refused : (caller : ℕ) → statusNumber s ≡ firstStatus (callRefusals t caller)
-  table-refused caller = e ∙ first-of-both (tableRefusals t) ((badCaller (decode t) caller ⇒ BAD-CALLER) ∷ []) (λ z. not-zero s (e ∙ z))
-
   -- "A tick has no caller."
   pub tick-refused : outcomeOf (Refused s) t ≡ step t tick
   unfolding step refusals commonRefusals ownRefusals

@@ -1,4 +1,3 @@
-pub mod Broadcasts
 pub mod Calls
 pub mod Creates
 pub mod Idents

@@ -4,8 +4,9 @@ use mathlib.Core.Path.{_≡_, refl, sym, ap, _∙_}
 use mathlib.Core.Bool.{true}
 use mathlib.Core.List.{List}
 use lib.ListN.{length, getD}
+use Rattle.records.specs.Layout.{byteValues, queuesSize, poolSize, tasksSize, taskCount}
 use Rattle.records.specs.Records.{State}
-use Rattle.records.specs.Bytes.{Tables, decodeQueues, decodePool, decodeTasks, decode, encode, rightLengths}
+use Rattle.records.specs.Bytes.{tables, Tables, decodeQueues, decodePool, decodeTasks, decode, encode, rightLengths}
 use Rattle.records.specs.InRange.{AllBytes}
 use Rattle.records.specs.Status.{statusNumber}
 use Rattle.records.specs.declared.status.RefusalStatus.{RefusalStatus}
@@ -15,37 +16,48 @@ use Rattle.specification.specs.Answer.{Outcome, Refusal, refuseIfAny, firstStat
 use Rattle.specification.proofs.Refused.{refused-first}
 use Rattle.specification.proofs.SoundFacts.{SoundFacts, sound-facts}
 use Rattle.theorems.proofs.FieldsInRange.{decoded-sized}
-use Rattle.theorems.proofs.SoundCall.{ReadyCaller, ready-caller}
-use Rattle.manager.specs.Outcomes.{answerOf, tables, outcomeOf, Callable}
+use Rattle.specification.proofs.Accepted.{ready-caller}
+use Rattle.common_refusals.specs.Tested.{Callable}
+use Rattle.manager.specs.Outcomes.{answerOf, outcomeOf}
 use Rattle.manager.specs.declared.answer.Answer.the-variants.{Refused}
 
 -- the elements of a lent slice of bytes
 abbrev pub Slice : List ℕ → Type 0
-Slice l = (i : ℕ) → getD l i 0 < 256
+Slice l = (i : ℕ) → getD l i 0 < byteValues
 
 all-bytes : (l : List ℕ) → Slice l → AllBytes l
 all-bytes l b = record { below = λ i _. b i }
 
-module _ (q p w : List ℕ) (caller : ℕ) (ok : Callable (tables q p w) caller) where
-  pub facts : SoundFacts (decode (tables q p w))
-  facts = sound-facts (decode (tables q p w)) (decoded-sized (tables q p w)) (ok .isSound)
+-- What is known of the tables and of the caller once the tests 16, 10 and 11 have passed.
+pub record CallFacts (t : Tables) (caller : ℕ) : Type 0 where
+  pub queuesLength : length (t .queues) ≡ queuesSize
+  pub poolLength : length (t .pool) ≡ poolSize
+  pub tasksLength : length (t .tasks) ≡ tasksSize
+  pub sound : SoundFacts (decode t)
+  pub callerBelow : caller < taskCount
 
-  pub caller-ready : ReadyCaller (decode (tables q p w)) caller
-  caller-ready = ready-caller (decode (tables q p w)) caller (ok .ready)
-
-  pub table-lengths : (length q ≡ 256) × (length p ≡ 8192) × (length w ≡ 4352)
-  table-lengths = lengths (tables q p w) (ok .lengths)
+module _ {t : Tables} {caller : ℕ} (ok : Callable t caller) where
+  pub call-facts : CallFacts t caller
+  call-facts =
+      let (queues, pool, tasks) = lengths t (ok .lengths) in
+      record {
+        queuesLength = queues;
+        poolLength = pool;
+        tasksLength = tasks;
+        sound = sound-facts (decode t) (decoded-sized t) (ok .isSound);
+        callerBelow = ready-caller (decode t) caller (ok .ready) .below;
+      }
 
   -- the tables that the code leaves are bytes of the same lengths
-  pub as-encoded : (q′ p′ w′ : List ℕ) → length q′ ≡ length q → length p′ ≡ length p → length w′ ≡ length w → Slice q′ → Slice p′ → Slice w′
-      → encode (decode (tables q′ p′ w′)) ≡ tables q′ p′ w′
+  pub as-encoded : (q p w : List ℕ) → length q ≡ length (t .queues) → length p ≡ length (t .pool) → length w ≡ length (t .tasks) → Slice q → Slice p → Slice w
+      → encode (decode (tables q p w)) ≡ tables q p w
   unfolding rightLengths
-  as-encoded q′ p′ w′ lq lp lw bq bp bw =
-      let same : rightLengths (tables q′ p′ w′) ≡ true = rw (lq, lp, lw) (ok .lengths) in
-      encode-decode (tables q′ p′ w′) (record { lengths = same; queues = all-bytes q′ bq; pool = all-bytes p′ bp; tasks = all-bytes w′ bw })
+  as-encoded q p w lq lp lw bq bp bw =
+      let same : rightLengths (tables q p w) ≡ true = rw (lq, lp, lw) (ok .lengths) in
+      encode-decode (tables q p w) (record { lengths = same; queues = all-bytes q bq; pool = all-bytes p bp; tasks = all-bytes w bw })
 
-  pub unchanged : Slice q → Slice p → Slice w → encode (decode (tables q p w)) ≡ tables q p w
-  unchanged bq bp bw = as-encoded q p w refl refl refl bq bp bw
+  pub unchanged : Slice (t .queues) → Slice (t .pool) → Slice (t .tasks) → encode (decode t) ≡ t
+  unchanged bq bp bw = as-encoded (t .queues) (t .pool) (t .tasks) refl refl refl bq bp bw
 
 -- the tables that the code leaves, by their records
 pub left : (q p w : List ℕ) (s : State) → encode (decode (tables q p w)) ≡ tables q p w → decodeQueues q ≡ s .queues → decodePool p ≡ s .pool → decodeTasks w ≡ s .tasks

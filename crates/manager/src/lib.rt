@@ -1,6 +1,5 @@
 // The message queue manager: nine directives and the clock tick, over three lent tables.
 pub mod answer; // answer.rt: what a call answers
-pub mod call; // call.rt: the tests that every call makes first
 pub mod clocktick; // clocktick.rt: the clock tick
 pub mod msgqbroadcast; // msgqbroadcast.rt: broadcast
 pub mod msgqcreate; // msgqcreate.rt: create

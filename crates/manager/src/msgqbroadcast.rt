@@ -1,33 +1,34 @@
 // Broadcast.
 ghost use mathlib.Core.Path.{_≡_};
 ghost use Prim.Native.Nat.{_<_};
+ghost use Rattle.records.specs.Layout.{taskCount};
+ghost use Rattle.records.specs.Bytes.{tables};
 ghost use Rattle.records.specs.Status.{verdictStatus};
 ghost use Rattle.specification.specs.Answer.{firstStatus};
 ghost use Rattle.specification.specs.Broadcast.{broadcastTests};
 ghost use Rattle.specification.specs.Call.{call, onQueue, broadcast};
 ghost use Rattle.specification.specs.Step.{step};
-ghost use Rattle.manager.specs.Outcomes.{tables, outcomeOf, Callable, accepted};
+ghost use Rattle.common_refusals.specs.Tested.{Callable};
+ghost use Rattle.manager.specs.Outcomes.{outcomeOf, accepted};
 use crate::answer::Answer;
-use crate::call::call_refusal;
-use coremsg::lookup::bad_size;
-use coremsg::lookup::usable;
-use coremsg::waiters::deliver_to_all;
-use coremsg::waiters::waiters_mask;
+use common_refusals::call_refusal;
+use coremsg::clears::hand_to_all;
+use objects::lookup::usable;
+use records::layout::SLOT_COUNT;
 use records::queue::QueueRecord;
 use records::queue::read_queue;
-use records::queue::write_queue;
 use records::status::RefusalStatus;
 use records::status::Verdict;
 
 // The first refusal, if any.
 fn refusal(q: QueueRecord, caller: usize, id: u32, size: usize) -> Verdict
-    requires { ⌜ caller < 32 ⌝ }
+    requires { ⌜ caller < taskCount ⌝ }
     ensures { λ r. ⌜ verdictStatus r ≡ firstStatus (broadcastTests q caller id size) ⌝ }
 {
     if !usable(q, caller, id) {
         return Verdict::Refused(RefusalStatus::InvalidId);
     }
-    if bad_size(q, size) {
+    if !q.size_allowed(size) {
         return Verdict::Refused(RefusalStatus::InvalidSize);
     }
     Verdict::Passed
@@ -46,15 +47,13 @@ pub fn broadcast(
     ensures { λ r. ⌜ outcomeOf r (tables (now (queues .exit)) (now (pool .entry)) (now (tasks .exit)))
         ≡ accepted (tables (now (queues .entry)) (now (pool .entry)) (now (tasks .entry))) caller (onQueue id (broadcast (now (message .entry)))) ⌝ }
 {
-    let slot = (id % 16) as usize;
+    let slot = id as usize % SLOT_COUNT;
     let q = read_queue(queues, slot);
     let verdict = refusal(q, caller, id, message.len());
     if let Verdict::Refused(status) = verdict {
         return Answer::Refused(status);
     }
-    let woken = waiters_mask(tasks, slot);
-    deliver_to_all(tasks, slot, message);
-    write_queue(queues, slot, q.with_waiters(0));
+    let woken = hand_to_all(queues, tasks, slot, message);
     Answer::Successful(u32::count_ones(woken), woken)
 }
 

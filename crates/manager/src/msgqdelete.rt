@@ -1,17 +1,16 @@
 // Delete.
 ghost use mathlib.Core.Path.{_≡_};
+ghost use Rattle.records.specs.Bytes.{tables};
 ghost use Rattle.specification.specs.Call.{call, onQueue, delete};
 ghost use Rattle.specification.specs.Step.{step};
-ghost use Rattle.manager.specs.Outcomes.{tables, outcomeOf, Callable, accepted};
+ghost use Rattle.common_refusals.specs.Tested.{Callable};
+ghost use Rattle.manager.specs.Outcomes.{outcomeOf, accepted};
 use crate::answer::Answer;
-use crate::call::call_refusal;
-use coremsg::lookup::owner_refusal;
-use coremsg::messages::clear_messages;
-use coremsg::waiters::ready_all;
-use coremsg::waiters::waiters_mask;
+use common_refusals::call_refusal;
+use coremsg::clears::close;
+use objects::lookup::owner_refusal;
+use records::layout::SLOT_COUNT;
 use records::queue::read_queue;
-use records::queue::write_queue;
-use records::status::OBJECT_WAS_DELETED;
 use records::status::Verdict;
 
 // Delete, on sound tables and for a caller that may call.
@@ -26,16 +25,13 @@ pub fn delete(
     ensures { λ r. ⌜ outcomeOf r (tables (now (queues .exit)) (now (pool .exit)) (now (tasks .exit)))
         ≡ accepted (tables (now (queues .entry)) (now (pool .entry)) (now (tasks .entry))) caller (onQueue id delete) ⌝ }
 {
-    let slot = (id % 16) as usize;
+    let slot = id as usize % SLOT_COUNT;
     let q = read_queue(queues, slot);
     let verdict = owner_refusal(q, caller, id);
     if let Verdict::Refused(status) = verdict {
         return Answer::Refused(status);
     }
-    let woken = waiters_mask(tasks, slot);
-    ready_all(tasks, slot, OBJECT_WAS_DELETED);
-    clear_messages(pool, slot);
-    write_queue(queues, slot, q.freed());
+    let woken = close(queues, pool, tasks, slot);
     Answer::Successful(0, woken)
 }
 

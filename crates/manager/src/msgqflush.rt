@@ -1,14 +1,15 @@
 // Flush.
 ghost use mathlib.Core.Path.{_≡_};
+ghost use Rattle.records.specs.Bytes.{tables};
 ghost use Rattle.specification.specs.Call.{call, onQueue, flush};
 ghost use Rattle.specification.specs.Step.{step};
-ghost use Rattle.manager.specs.Outcomes.{tables, outcomeOf, Callable, accepted};
+ghost use Rattle.common_refusals.specs.Tested.{Callable};
+ghost use Rattle.manager.specs.Outcomes.{outcomeOf, accepted};
 use crate::answer::Answer;
-use crate::call::call_refusal;
-use coremsg::lookup::owner_refusal;
-use coremsg::messages::clear_messages;
+use common_refusals::call_refusal;
+use objects::lookup::owner_refusal;
+use records::layout::SLOT_COUNT;
 use records::queue::read_queue;
-use records::queue::write_queue;
 use records::status::Verdict;
 
 // Flush, on sound tables and for a caller that may call.
@@ -17,15 +18,14 @@ pub fn flush(queues: &mut [u8], pool: &mut [u8], tasks: &[u8], caller: usize, id
     ensures { λ r. ⌜ outcomeOf r (tables (now (queues .exit)) (now (pool .exit)) (now (tasks .entry)))
         ≡ accepted (tables (now (queues .entry)) (now (pool .entry)) (now (tasks .entry))) caller (onQueue id flush) ⌝ }
 {
-    let slot = (id % 16) as usize;
+    let slot = id as usize % SLOT_COUNT;
     let q = read_queue(queues, slot);
     let verdict = owner_refusal(q, caller, id);
     if let Verdict::Refused(status) = verdict {
         return Answer::Refused(status);
     }
-    clear_messages(pool, slot);
-    write_queue(queues, slot, q.with_pending(0));
-    Answer::Successful(q.pending as u32, 0)
+    let removed = coremsg::clears::flush(queues, pool, slot);
+    Answer::Successful(removed as u32, 0)
 }
 
 pub fn message_queue_flush(

@@ -1,11 +1,14 @@
 // Get number pending.
 ghost use mathlib.Core.Path.{_≡_};
+ghost use Rattle.records.specs.Bytes.{tables};
 ghost use Rattle.specification.specs.Call.{call, onQueue, getNumberPending};
 ghost use Rattle.specification.specs.Step.{step};
-ghost use Rattle.manager.specs.Outcomes.{tables, outcomeOf, Callable, accepted};
+ghost use Rattle.common_refusals.specs.Tested.{Callable};
+ghost use Rattle.manager.specs.Outcomes.{outcomeOf, accepted};
 use crate::answer::Answer;
-use crate::call::call_refusal;
-use coremsg::lookup::usable;
+use common_refusals::call_refusal;
+use objects::lookup::usable;
+use records::layout::SLOT_COUNT;
 use records::queue::read_queue;
 use records::status::RefusalStatus;
 use records::status::Verdict;
@@ -22,7 +25,7 @@ pub fn get_number_pending(
     ensures { λ r. ⌜ outcomeOf r (tables (now (queues .entry)) (now (pool .entry)) (now (tasks .entry)))
         ≡ accepted (tables (now (queues .entry)) (now (pool .entry)) (now (tasks .entry))) caller (onQueue id getNumberPending) ⌝ }
 {
-    let q = read_queue(queues, (id % 16) as usize);
+    let q = read_queue(queues, id as usize % SLOT_COUNT);
     if !usable(q, caller, id) {
         return Answer::Refused(RefusalStatus::InvalidId);
     }

@@ -1,31 +1,31 @@
 // Receive.
 ghost use mathlib.Core.Path.{_≡_};
 ghost use Prim.Native.Nat.{_<_};
+ghost use Rattle.records.specs.Layout.{taskCount};
+ghost use Rattle.records.specs.Bytes.{tables};
 ghost use Rattle.records.specs.Status.{verdictStatus};
 ghost use Rattle.specification.specs.Answer.{firstStatus};
 ghost use Rattle.specification.specs.Receive.{receiveTests};
 ghost use Rattle.specification.specs.Call.{call, onQueue, receive};
 ghost use Rattle.specification.specs.Step.{step};
-ghost use Rattle.manager.specs.Outcomes.{tables, outcomeOf, Callable, accepted};
+ghost use Rattle.common_refusals.specs.Tested.{Callable};
+ghost use Rattle.manager.specs.Outcomes.{outcomeOf, accepted};
 use crate::answer::Answer;
-use crate::call::call_refusal;
-use coremsg::lookup::less_one;
-use coremsg::lookup::usable;
-use coremsg::messages::copy_message;
+use common_refusals::call_refusal;
 use coremsg::messages::first_message;
-use coremsg::messages::message_size;
-use coremsg::messages::remove_message;
-use coremsg::waiters::enter;
-use coremsg::waitrank::wait_rank;
+use coremsg::steps::take_first;
+use coremsg::steps::wait_in;
+use objects::lookup::usable;
+use records::layout::BUFFER_COUNT;
+use records::layout::SLOT_COUNT;
 use records::queue::QueueRecord;
 use records::queue::read_queue;
-use records::queue::write_queue;
 use records::status::RefusalStatus;
 use records::status::Verdict;
 
 // The first refusal, if any. The message at rank 0 is in buffer b, if there is one.
 fn refusal(q: QueueRecord, caller: usize, id: u32, option: u32, b: usize) -> Verdict
-    requires { ⌜ caller < 32 ⌝ }
+    requires { ⌜ caller < taskCount ⌝ }
     ensures { λ r. ⌜ verdictStatus r ≡ firstStatus (receiveTests q caller id option b) ⌝ }
 {
     if !usable(q, caller, id) {
@@ -34,7 +34,7 @@ fn refusal(q: QueueRecord, caller: usize, id: u32, option: u32, b: usize) -> Ver
     if 1 < option {
         return Verdict::Refused(RefusalStatus::InvalidOption);
     }
-    if (64 <= b) & (option == 1) {
+    if (BUFFER_COUNT <= b) & (option == 1) {
         return Verdict::Refused(RefusalStatus::Unsatisfied);
     }
     Verdict::Passed
@@ -54,23 +54,18 @@ pub fn receive(
     ensures { λ r. ⌜ outcomeOf r (tables (now (queues .exit)) (now (pool .exit)) (now (tasks .exit)))
         ≡ accepted (tables (now (queues .entry)) (now (pool .entry)) (now (tasks .entry))) caller (onQueue id (receive option ticks)) ⌝ }
 {
-    let slot = (id % 16) as usize;
+    let slot = id as usize % SLOT_COUNT;
     let q = read_queue(queues, slot);
     let b = first_message(pool, slot);
     let verdict = refusal(q, caller, id, option, b);
     if let Verdict::Refused(status) = verdict {
         return Answer::Refused(status);
     }
-    if b < 64 {
-        let n = message_size(pool, b);
-        copy_message(tasks, caller, pool, b, n);
-        remove_message(pool, slot, b);
-        write_queue(queues, slot, q.with_pending(less_one(q.pending)));
+    if b < BUFFER_COUNT {
+        let n = take_first(queues, pool, tasks, caller, slot, b);
         return Answer::Successful(n as u32, 0);
     }
-    let rank = wait_rank(tasks, q, caller, slot);
-    enter(tasks, caller, slot, rank, ticks);
-    write_queue(queues, slot, q.with_waiters(q.waiters + 1));
+    wait_in(queues, tasks, caller, slot, ticks);
     Answer::Waiting
 }
 

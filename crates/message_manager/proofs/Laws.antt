@@ -8,32 +8,33 @@ use lib.ListN.{length, drop-of-length-le}
 use borrow.Author.Tests.{eq-eqb, ne-eqb}
 use Rattle.ranks.specs.Table.{spliced}
 use Rattle.records.specs.Bytes.{Tables, toLittleEndian}
+use Rattle.records.specs.Status.{BAD-SHAPE}
 use Rattle.specification.specs.Answer.{Answer, Outcome}
-use Rattle.calllog.specs.CallLog.{answerBytes}
+use Rattle.calllog.specs.CallLog.{answerBytes, answerWidth}
 use Rattle.runs.specs.Fresh.{MadeFresh}
 use Rattle.runs.specs.Replay.{answerRecord, Replayed, ReplayedInto, intoLent}
 use Rattle.message_manager.specs.Interface.{answeredInto, returnedOf, returnedAlone}
 
 -- An answer record that is written from place 0 on fills a buffer of 16 bytes.
-pub filled : (lent r : List ℕ) (a : Answer) (firstByte : ℕ) → length lent ≡ 16 → r ≡ answerRecord a firstByte → spliced lent 0 r ≡ answerRecord a firstByte
+pub filled : (lent r : List ℕ) (a : Answer) (firstByte : ℕ) → length lent ≡ answerWidth → r ≡ answerRecord a firstByte → spliced lent 0 r ≡ answerRecord a firstByte
 unfolding spliced answerBytes toLittleEndian
-filled lent r a firstByte h e = ap (spliced lent 0) e ∙ ap (λ (l : List ℕ). answerRecord a firstByte ++ l) (drop-of-length-le lent {i = 16} (omega arith))
+filled lent r a firstByte h e = ap (spliced lent 0) e ∙ ap (λ (l : List ℕ). answerRecord a firstByte ++ l) (drop-of-length-le lent {i = answerWidth} (omega arith))
 
 module _ (lent : List ℕ) (t : Tables) (firstByte : ℕ) where
   -- a buffer of another length: nothing is done
-  pub another-length : (o : Outcome Tables) → (length lent ≡ 16 → ⊥) → (record { status = 16; answer = lent; after = t }) ≡ answeredInto lent t firstByte o
+  pub another-length : (o : Outcome Tables) → (length lent ≡ answerWidth → ⊥) → (record { status = BAD-SHAPE; answer = lent; after = t }) ≡ answeredInto lent t firstByte o
   unfolding answeredInto
-  another-length o h = rw (ne-eqb (length lent) 16 h)
+  another-length o h = rw (ne-eqb (length lent) answerWidth h)
 
   -- the call was done, its answer record is written and its status returned
-  pub answered : {o : Outcome Tables} {a : Answer} {after : Tables} {status : ℕ} {written : List ℕ} → length lent ≡ 16
+  pub answered : {o : Outcome Tables} {a : Answer} {after : Tables} {status : ℕ} {written : List ℕ} → length lent ≡ answerWidth
       → (record { answer = a; after = after }) ≡ o → (written ≡ answerRecord a firstByte) × (status ≡ a .status)
       → (record { status = status; answer = written; after = after }) ≡ answeredInto lent t firstByte o
   unfolding answeredInto
   answered {after} h done (w, s) =
       (λ i. record { status = s i; answer = w i; after = after })
       ∙ ap (λ (x : Outcome Tables). record { status = x .answer .status; answer = answerRecord (x .answer) firstByte; after = x .after }) done
-      ∙ rw (eq-eqb (length lent) 16 h)
+      ∙ rw (eq-eqb (length lent) answerWidth h)
 
 -- a log was replayed, or was not, and the test of that went so
 pub returned : (r : Replayed) {done so : Bool} {x : ReplayedInto} → done ≡ so → intoLent done r ≡ x → returnedOf (intoLent so r) ≡ returnedOf x

@@ -7,7 +7,7 @@ use Rattle.records.specs.Status.{SUCCESSFUL, BAD-SHAPE}
 use Rattle.specification.specs.Answer.{Outcome}
 use Rattle.specification.specs.Call.{Operation, Call, delete, send, urgent, broadcast, receive, getNumberPending, flush, create, ident, onQueue, call, tick}
 use Rattle.specification.specs.Step.{step}
-use Rattle.calllog.specs.CallLog.{readRecord, messageOf}
+use Rattle.calllog.specs.CallLog.{readRecord, messageOf, answerWidth}
 use Rattle.runs.specs.Fresh.{MadeFresh, madeFresh}
 use Rattle.runs.specs.Replay.{answerRecord, outcomeFor, ReplayedInto, replayedInto}
 
@@ -17,10 +17,6 @@ pub record Returned : Type 0 where
   pub after : Tables
 
 -- ---- One call
-
--- "An answer record is 16 bytes"
-abbrev pub answerWidth : ℕ
-answerWidth = 16
 
 -- The outcome of a call whose record would have the first byte given. A buffer of another length gets 16, and nothing is done.
 unfoldable pub answeredInto : (lent : List ℕ) → Tables → (firstByte : ℕ) → Outcome Tables → Returned

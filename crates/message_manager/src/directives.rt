@@ -1,10 +1,11 @@
 // The nine directives and the clock tick for C: each writes its answer record and returns its status. An answer buffer of another
 // length than 16 bytes gets 16, and nothing is done.
 ghost use mathlib.Core.Path.{_≡_};
+ghost use Rattle.records.specs.Bytes.{tables};
 ghost use Rattle.specification.specs.Call.{call, tick, create, ident, onQueue, delete, send, urgent, broadcast, receive, getNumberPending, flush};
-ghost use Rattle.manager.specs.Outcomes.{tables};
 ghost use Rattle.message_manager.specs.Interface.{called};
 use crate::answer::write_answer;
+use calllog::layout::ANSWER_WIDTH;
 use manager::clocktick;
 use manager::msgqbroadcast;
 use manager::msgqcreate;
@@ -26,15 +27,15 @@ pub extern "C" fn message_queue_create(
     caller: u32,
     name: u32,
     limit: u32,
-    size: u32,
+    maxSize: u32,
     attributes: u32,
     answer: &mut [u8],
 ) -> u32
     ensures { λ r. ⌜ (record { status = r; answer = now (answer .exit); after = tables (now (queues .exit)) (now (pool .entry)) (now (tasks .entry)) })
         ≡ called (now (answer .entry)) (tables (now (queues .entry)) (now (pool .entry)) (now (tasks .entry)))
-        (call caller (create name limit size attributes)) ⌝ }
+        (call caller (create name limit maxSize attributes)) ⌝ }
 {
-    if answer.len() != 16 {
+    if answer.len() != ANSWER_WIDTH {
         return BAD_SHAPE as u32;
     }
     let a = msgqcreate::message_queue_create(
@@ -44,7 +45,7 @@ pub extern "C" fn message_queue_create(
         caller,
         name,
         limit,
-        size,
+        maxSize,
         attributes,
     );
     write_answer(answer, a, 1)
@@ -65,7 +66,7 @@ pub extern "C" fn message_queue_ident(
         ≡ called (now (answer .entry)) (tables (now (queues .entry)) (now (pool .entry)) (now (tasks .entry)))
         (call caller (ident name share)) ⌝ }
 {
-    if answer.len() != 16 {
+    if answer.len() != ANSWER_WIDTH {
         return BAD_SHAPE as u32;
     }
     let a = msgqident::message_queue_ident(queues, pool, tasks, caller, name, share);
@@ -86,7 +87,7 @@ pub extern "C" fn message_queue_delete(
         ≡ called (now (answer .entry)) (tables (now (queues .entry)) (now (pool .entry)) (now (tasks .entry)))
         (call caller (onQueue id delete)) ⌝ }
 {
-    if answer.len() != 16 {
+    if answer.len() != ANSWER_WIDTH {
         return BAD_SHAPE as u32;
     }
     let a = msgqdelete::message_queue_delete(queues, pool, tasks, caller, id);
@@ -108,7 +109,7 @@ pub extern "C" fn message_queue_send(
         ≡ called (now (answer .entry)) (tables (now (queues .entry)) (now (pool .entry)) (now (tasks .entry)))
         (call caller (onQueue id (send (now (message .entry))))) ⌝ }
 {
-    if answer.len() != 16 {
+    if answer.len() != ANSWER_WIDTH {
         return BAD_SHAPE as u32;
     }
     let a = msgqsend::message_queue_send(queues, pool, tasks, caller, id, message);
@@ -130,7 +131,7 @@ pub extern "C" fn message_queue_urgent(
         ≡ called (now (answer .entry)) (tables (now (queues .entry)) (now (pool .entry)) (now (tasks .entry)))
         (call caller (onQueue id (urgent (now (message .entry))))) ⌝ }
 {
-    if answer.len() != 16 {
+    if answer.len() != ANSWER_WIDTH {
         return BAD_SHAPE as u32;
     }
     let a = msgqurgent::message_queue_urgent(queues, pool, tasks, caller, id, message);
@@ -152,7 +153,7 @@ pub extern "C" fn message_queue_broadcast(
         ≡ called (now (answer .entry)) (tables (now (queues .entry)) (now (pool .entry)) (now (tasks .entry)))
         (call caller (onQueue id (broadcast (now (message .entry))))) ⌝ }
 {
-    if answer.len() != 16 {
+    if answer.len() != ANSWER_WIDTH {
         return BAD_SHAPE as u32;
     }
     let a = msgqbroadcast::message_queue_broadcast(queues, pool, tasks, caller, id, message);
@@ -175,7 +176,7 @@ pub extern "C" fn message_queue_receive(
         ≡ called (now (answer .entry)) (tables (now (queues .entry)) (now (pool .entry)) (now (tasks .entry)))
         (call caller (onQueue id (receive option ticks))) ⌝ }
 {
-    if answer.len() != 16 {
+    if answer.len() != ANSWER_WIDTH {
         return BAD_SHAPE as u32;
     }
     let a = msgqreceive::message_queue_receive(queues, pool, tasks, caller, id, option, ticks);
@@ -196,7 +197,7 @@ pub extern "C" fn message_queue_get_number_pending(
         ≡ called (now (answer .entry)) (tables (now (queues .entry)) (now (pool .entry)) (now (tasks .entry)))
         (call caller (onQueue id getNumberPending)) ⌝ }
 {
-    if answer.len() != 16 {
+    if answer.len() != ANSWER_WIDTH {
         return BAD_SHAPE as u32;
     }
     let a = msgqgetnumberpending::message_queue_get_number_pending(queues, pool, tasks, caller, id);
@@ -217,7 +218,7 @@ pub extern "C" fn message_queue_flush(
         ≡ called (now (answer .entry)) (tables (now (queues .entry)) (now (pool .entry)) (now (tasks .entry)))
         (call caller (onQueue id flush)) ⌝ }
 {
-    if answer.len() != 16 {
+    if answer.len() != ANSWER_WIDTH {
         return BAD_SHAPE as u32;
     }
     let a = msgqflush::message_queue_flush(queues, pool, tasks, caller, id);
@@ -236,7 +237,7 @@ pub extern "C" fn message_clock_tick(
         ≡ called (now (answer .entry)) (tables (now (queues .entry)) (now (pool .entry)) (now (tasks .entry)))
         tick ⌝ }
 {
-    if answer.len() != 16 {
+    if answer.len() != ANSWER_WIDTH {
         return BAD_SHAPE as u32;
     }
     let a = clocktick::clock_tick(queues, pool, tasks);

@@ -1,6 +1,6 @@
 // Fresh tables, for C.
 ghost use mathlib.Core.Path.{_≡_};
-ghost use Rattle.manager.specs.Outcomes.{tables};
+ghost use Rattle.records.specs.Bytes.{tables};
 ghost use Rattle.message_manager.specs.Interface.{freshTablesMade};
 use records::status::BAD_SHAPE;
 use records::status::SUCCESSFUL;

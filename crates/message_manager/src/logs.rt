@@ -1,23 +1,25 @@
 // A call record, and a whole log, for C.
 ghost use mathlib.Core.Path.{_≡_};
 ghost use Rattle.ranks.specs.Table.{byte};
-ghost use Rattle.manager.specs.Outcomes.{tables};
+ghost use Rattle.records.specs.Bytes.{tables};
 ghost use Rattle.calllog.specs.CallLog.{readRecord};
 ghost use Rattle.message_manager.specs.Interface.{calledRecord, replayedLog};
 use crate::answer::write_answer;
 use calllog::call::LogResult;
+use calllog::decode::message_field;
+use calllog::layout::ANSWER_WIDTH;
+use calllog::layout::RECORD_WIDTH;
 use calllog::reader::read_at;
 use records::status::BAD_SHAPE;
 use records::status::SUCCESSFUL;
 use runs::answer::answer_searching;
-use runs::replay::message_field;
 use runs::replay::replay;
 
 // What the record says; one of another length than 136 bytes is malformed.
 fn read_record(bytes: &[u8]) -> LogResult
     ensures { λ r. ⌜ r ≡ readRecord (now (bytes .entry)) ⌝ }
 {
-    if bytes.len() != 136 {
+    if bytes.len() != RECORD_WIDTH {
         return LogResult::Malformed;
     }
     let s = read_at(bytes, 0);
@@ -46,7 +48,7 @@ pub extern "C" fn message_manager_call(
     ensures { λ r. ⌜ (record { status = r; answer = now (answer .exit); after = tables (now (queues .exit)) (now (pool .exit)) (now (tasks .exit)) })
         ≡ calledRecord (now (answer .entry)) (tables (now (queues .entry)) (now (pool .entry)) (now (tasks .entry))) (now (bytes .entry)) ⌝ }
 {
-    if answer.len() != 16 {
+    if answer.len() != ANSWER_WIDTH {
         return BAD_SHAPE as u32;
     }
     let a = answer_searching(

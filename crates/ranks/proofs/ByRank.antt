@@ -14,8 +14,8 @@ use Rattle.ranks.specs.Lists.{mapWithIndex, countTrue, firstTrue, number
 use Rattle.ranks.specs.Position.{Position, inQueue, standsAt}
 use Rattle.ranks.specs.Steps.{inserted, takenOut, recordAt, byRank}
 use Rattle.ranks.proofs.Tests.{both, and, same?, lt-or-ge}
-use Rattle.ranks.proofs.Lists.{at-mapped, length-mapped, first-true, first-least, count-none, length-range, at-range, mapped-cong, is-mapped}
-use Rattle.ranks.proofs.Ranks.{Ranked, Agree, Left, Came, frame, take-out, stayed, insert, is, in-itself, out-itself, out-moved}
+use Rattle.ranks.proofs.Lists.{at-mapped, length-mapped, first-true, first-least, count-none, count-bound, length-range, at-range, mapped-cong, is-mapped}
+use Rattle.ranks.proofs.Ranks.{Ranked, Agree, Came, came-order, frame, take-out, stayed, insert, is, in-itself, out-itself, out-moved}
 
 -- ---- Lists
 
@@ -119,17 +119,8 @@ module _ {N : ℕ} {P : ℕ → Position} {slot n : ℕ} where
             (j, ap (λ (p : Position). p .queue) s ∙ q, ap (λ (p : Position). p .rank) s ∙ e);
       }
 
-came-before : {rank r r′ k : ℕ} → k < rank → Came rank r r′ → r ≡ k → r′ ≡ k
-came-before h (Came.before a b) e = omega arith
-came-before h (Came.after a b) e = omega arith
-
-came-behind : {rank r r′ k : ℕ} → rank ≤ k → Came rank r r′ → r ≡ k → r′ ≡ suc k
-came-behind h (Came.before a b) e = omega arith
-came-behind h (Came.after a b) e = omega arith
-
-came-left : {rank k r r′ : ℕ} → rank ≡ k → Left rank r r′ → Came k r′ r
-came-left e (Left.before a b) = Came.before (omega arith) (sym b)
-came-left e (Left.after a b) = Came.after (omega arith) (sym b)
+came-at : {rank k r r′ : ℕ} → rank ≡ k → Came rank r r′ → Came k r r′
+came-at {r} {r′} e c = subst (λ (k : ℕ). Came k r r′) e c
 
 -- Record t is put in at a rank, and the others come to where they stand then.
 listed-put : {N : ℕ} {P P′ : ℕ → Position} {slot n n′ : ℕ} {l : List ℕ} (t rank : ℕ) → suc n ≡ n′ → rank ≤ n → Stands N P′ slot rank t
@@ -141,17 +132,17 @@ listed-put {N} {P} {P′} {slot} {n} {n′} {l} t rank e le s came p =
       entry = λ k d h. entry k d (omega arith) (same? k rank) (lt-or-ge k rank);
     }
   where
-    came-to : {k j : ℕ} (i : ℕ) → Stands N P slot k i → (Came rank (P i .rank) (P′ i .rank) → P i .rank ≡ k → P′ i .rank ≡ j) → Stands N P′ slot j i
-    came-to i (h, q, e) to = let (q′, c) = came i h q in (h, q′, to c e)
+    came-to : {k j : ℕ} (i : ℕ) → Stands N P slot k i → Came rank k j → Stands N P′ slot j i
+    came-to i (h, q, e) to = let (q′, c) = came i h q in (h, q′, came-order c to .2 e)
 
     entry : (k d : ℕ) → k < suc n → (k ≡ rank) ⊎ (k ≡ rank → ⊥) → (k < rank) ⊎ (rank ≤ k) → Stands N P′ slot k (getD (take rank l ++ t ∷ drop rank l) k d)
     entry k d h (inl e) c = rw (e, getD-at (take rank l) t (drop rank l) d rank (length-take-le rank l (omega (arith, p .long)))) s
     entry k d h (inr ne) (inl lt) =
-        rw (put-before l rank t k d lt (omega (arith, p .long))) (came-to (getD l k d) (p .entry k d (omega arith)) (came-before lt))
+        rw (put-before l rank t k d lt (omega (arith, p .long))) (came-to (getD l k d) (p .entry k d (omega arith)) (Came.before lt refl))
     entry zero d h (inr ne) (inr ge) = absurd (ne (omega arith))
     entry (suc k) d h (inr ne) (inr ge) =
         let le : rank ≤ k = omega arith in
-        rw (put-behind l rank t k d le) (came-to (getD l k d) (p .entry k d (omega arith)) (came-behind le))
+        rw (put-behind l rank t k d le) (came-to (getD l k d) (p .entry k d (omega arith)) (Came.after le refl))
 
 -- ---- The queue of a slot in a table
 
@@ -254,6 +245,11 @@ counted {A} {position} {a} {N} {slot} {n} {xs} table =
     ap countTrue (mapped-cong _ _ xs xs a a false refl (λ i h. refl))
     ∙ count-members xs a slot n (positions position a xs) (subst (λ (m : ℕ). Ranked m (positions position a xs) slot n) (sym (table .long)) (table .ranks))
 
+-- a queue holds at most all records
+pub held-bound : {A : Type 0} {position : A → Position} {a : A} {N slot n : ℕ} {xs : List A} → RankedTable position a N slot n xs → n ≤ N
+held-bound {position = position} {slot = slot} {xs = xs} table =
+    omega (arith, counted table, count-bound (mapWithIndex (λ j x. inQueue slot (position x)) xs), length-mapped (λ j x. inQueue slot (position x)) xs, table .long)
+
 -- ---- What the steps make of the list
 
 -- equal positions agree for every queue
@@ -303,7 +299,7 @@ module _ {A : Type 0} {position : A → Position} {a : A} {N slot n : ℕ} {xs :
         sym
         (is-by-rank table
         (listed-put t k (omega arith) (omega arith) s
-        (λ j h x. let (ne, q, l) = stayed N (positions position a xs) slot n t (s .0) (s .1) (table .ranks) j h x in (q, came-left (s .2) l))
+        (λ j h x. let (ne, q, l) = stayed N (positions position a xs) slot n t (s .0) (s .1) (table .ranks) j h x in (q, came-at (s .2) l))
         (listed-agree (λ j h. alike (sym (to-rank j h))) (by-rank-listed taken-table))))
 
     -- t is no entry afterwards

@@ -102,12 +102,6 @@ first-least (true ∷ bs) i e = omega arith
 first-least (false ∷ bs) zero e = absurd (false≢true e)
 first-least (false ∷ bs) (suc i) e = let ih : firstTrue bs ≤ i = first-least bs i e in omega arith
 
-pub first-bound : (bs : List Bool) → firstTrue bs ≤ length bs
-unfolding firstTrue
-first-bound [] = omega arith
-first-bound (true ∷ bs) = omega arith
-first-bound (false ∷ bs) = let ih : firstTrue bs ≤ length bs = first-bound bs in omega arith
-
 -- ---- mask
 
 abbrev pub one : Bool → ℕ
@@ -124,6 +118,12 @@ bit-mask (false ∷ bs) zero = omega arith
 bit-mask (false ∷ bs) (suc t) = let e : (2 * mask bs) / 2 ≡ mask bs = omega arith in ap (bit t) e ∙ bit-mask bs t
 
 -- ---- count
+
+pub count-bound : (bs : List Bool) → countTrue bs ≤ length bs
+unfolding countTrue
+count-bound [] = omega arith
+count-bound (true ∷ bs) = let ih : countTrue bs ≤ length bs = count-bound bs in omega arith
+count-bound (false ∷ bs) = let ih : countTrue bs ≤ length bs = count-bound bs in omega arith
 
 pub count-none : (bs : List Bool) → ((i : ℕ) → getD bs i false ≡ false) → countTrue bs ≡ 0
 unfolding countTrue

@@ -85,28 +85,40 @@ frame N P P′ slot n stay back r =
           r .one j k hj hk bj bk (sym (ap (λ (p : Position). p .rank) (stay j hj bj)) ∙ e ∙ ap (λ (p : Position). p .rank) (stay k hk bk));
     }
 
--- ---- Take out
+-- ---- The ranks with one record and without it
 
--- the rank r of one that stays, and the rank r′ that it gets
-pub data Left (rank r r′ : ℕ) : Type 0 where
-  before : r < rank → r′ ≡ r → Left rank r r′
-  after : rank < r → suc r′ ≡ r → Left rank r r′
+-- the rank r of another where the one at the rank is out, and its rank r′ where it is in
+pub data Came (rank r r′ : ℕ) : Type 0 where
+  before : r < rank → r′ ≡ r → Came rank r r′
+  after : rank ≤ r → r′ ≡ suc r → Came rank r r′
 
-pub left-inj : {rank a a′ b b′ : ℕ} → Left rank a a′ → Left rank b b′ → a′ ≡ b′ → a ≡ b
-left-inj (before h e) (before k f) q = omega arith
-left-inj (before h e) (after k f) q = omega arith
-left-inj (after h e) (before k f) q = omega arith
-left-inj (after h e) (after k f) q = omega arith
+-- the order of two others is the same with it and without it
+pub came-order : {rank a a′ b b′ : ℕ} → Came rank a a′ → Came rank b b′
+    → (a < b → a′ < b′) × (a′ < b′ → a < b) × (a ≡ b → a′ ≡ b′) × (a′ ≡ b′ → a ≡ b)
+came-order (before h e) (before k f) = (λ q. omega arith, λ q. omega arith, λ q. omega arith, λ q. omega arith)
+came-order (before h e) (after k f) = (λ q. omega arith, λ q. omega arith, λ q. omega arith, λ q. omega arith)
+came-order (after h e) (before k f) = (λ q. omega arith, λ q. omega arith, λ q. omega arith, λ q. omega arith)
+came-order (after h e) (after k f) = (λ q. omega arith, λ q. omega arith, λ q. omega arith, λ q. omega arith)
 
-pub left-mono : {rank a a′ b b′ : ℕ} → Left rank a a′ → Left rank b b′ → a′ < b′ → a < b
-left-mono (before h e) (before k f) q = omega arith
-left-mono (before h e) (after k f) q = omega arith
-left-mono (after h e) (before k f) q = omega arith
-left-mono (after h e) (after k f) q = omega arith
+pub left-mono : {rank a a′ b b′ : ℕ} → Came rank a a′ → Came rank b b′ → a < b → a′ < b′
+left-mono c d = came-order c d .0
 
-left-below : {rank a a′ n : ℕ} → Left rank a a′ → a < n → rank < n → a′ < n - 1
+pub came-mono : {rank a a′ b b′ : ℕ} → Came rank a a′ → Came rank b b′ → a′ < b′ → a < b
+came-mono c d = came-order c d .1
+
+came-ne : {rank a a′ : ℕ} → Came rank a a′ → a′ ≡ rank → ⊥
+came-ne (before h e) q = omega arith
+came-ne (after h e) q = omega arith
+
+came-below : {rank a a′ n : ℕ} → Came rank a a′ → a < n → a′ < suc n
+came-below (before h e) l = omega arith
+came-below (after h e) l = omega arith
+
+left-below : {rank a a′ n : ℕ} → Came rank a a′ → a′ < n → rank < n → a < n - 1
 left-below (before h e) l k = omega arith
 left-below (after h e) l k = omega arith
+
+-- ---- Take out
 
 -- Take record t, which stands in the queue, out of N positions.
 module _ (N : ℕ) (P : ℕ → Position) (slot n t : ℕ) (here : t < N) (q : P t .queue ≡ suc slot) (r : Ranked N P slot n) where
@@ -115,17 +127,17 @@ module _ (N : ℕ) (P : ℕ → Position) (slot n t : ℕ) (here : t < N) (q : P
 
   -- one that is in the queue afterwards was there before, and is not t
   pub stayed : (j : ℕ) → j < N → takenOut t slot (P t .rank) j (P j) .queue ≡ suc slot
-      → (j ≡ t → ⊥) × (P j .queue ≡ suc slot) × Left (P t .rank) (P j .rank) (takenOut t slot (P t .rank) j (P j) .rank)
+      → (j ≡ t → ⊥) × (P j .queue ≡ suc slot) × Came (P t .rank) (takenOut t slot (P t .rank) j (P j) .rank) (P j .rank)
   stayed j h e = go (eqb j t) refl
     where
       T : Type 0
-      T = (j ≡ t → ⊥) × (P j .queue ≡ suc slot) × Left (P t .rank) (P j .rank) (takenOut t slot (P t .rank) j (P j) .rank)
+      T = (j ≡ t → ⊥) × (P j .queue ≡ suc slot) × Came (P t .rank) (takenOut t slot (P t .rank) j (P j) .rank) (P j .rank)
 
       by : (j ≡ t → ⊥) → Out slot (P t .rank) (P j) (takenOut t slot (P t .rank) j (P j)) → T
       by ne (ahead a b c d) =
           let ne′ : P j .rank ≡ P t .rank → ⊥ = λ z. ne (r .one j t h here a q z) in
-          (ne, a, before (omega arith) d)
-      by ne (behind a b c d) = (ne, a, after b d)
+          (ne, a, before (omega arith) (sym d))
+      by ne (behind a b c d) = (ne, a, after (omega arith) (sym d))
       by ne (elsewhere a b) = absurd (a (sym (ap (λ (p : Position). p .queue) b) ∙ e))
 
       go : (b : Bool) → eqb j t ≡ b → T
@@ -138,15 +150,15 @@ module _ (N : ℕ) (P : ℕ → Position) (slot n t : ℕ) (here : t < N) (q : P
 
   -- one of the queue other than t stays in it
   pub stays : (j : ℕ) → j < N → P j .queue ≡ suc slot → (j ≡ t → ⊥)
-      → (takenOut t slot (P t .rank) j (P j) .queue ≡ suc slot) × Left (P t .rank) (P j .rank) (takenOut t slot (P t .rank) j (P j) .rank)
+      → (takenOut t slot (P t .rank) j (P j) .queue ≡ suc slot) × Came (P t .rank) (takenOut t slot (P t .rank) j (P j) .rank) (P j .rank)
   stays j h e ne = by (out t slot (P t .rank) j (P j) ne)
     where
       by : Out slot (P t .rank) (P j) (takenOut t slot (P t .rank) j (P j))
-          → (takenOut t slot (P t .rank) j (P j) .queue ≡ suc slot) × Left (P t .rank) (P j .rank) (takenOut t slot (P t .rank) j (P j) .rank)
+          → (takenOut t slot (P t .rank) j (P j) .queue ≡ suc slot) × Came (P t .rank) (takenOut t slot (P t .rank) j (P j) .rank) (P j .rank)
       by (ahead a b c d) =
           let ne′ : P j .rank ≡ P t .rank → ⊥ = λ z. ne (r .one j t h here a q z) in
-          (c, before (omega arith) d)
-      by (behind a b c d) = (c, after b d)
+          (c, before (omega arith) (sym d))
+      by (behind a b c d) = (c, after (omega arith) (sym d))
       by (elsewhere a b) = absurd (a e)
 
   pub take-out : Ranked N (λ j. takenOut t slot (P t .rank) j (P j)) slot (n - 1)
@@ -158,7 +170,7 @@ module _ (N : ℕ) (P : ℕ → Position) (slot n t : ℕ) (here : t < N) (q : P
             λ j k hj hk ej ek e.
             let (nj, aj, lj) = stayed j hj ej in
             let (nk, ak, lk) = stayed k hk ek in
-            r .one j k hj hk aj ak (left-inj lj lk e);
+            r .one j k hj hk aj ak (came-order lj lk .2 e);
       }
     where
       T : ℕ → Type 0
@@ -166,54 +178,20 @@ module _ (N : ℕ) (P : ℕ → Position) (slot n t : ℕ) (here : t < N) (q : P
           (j : ℕ) × (j < N) × (takenOut t slot (P t .rank) j (P j) .queue ≡ suc slot) × (takenOut t slot (P t .rank) j (P j) .rank ≡ k)
 
       -- the one at rank m stays, and gets rank k
-      atIndex : (k m : ℕ) → (x : (j : ℕ) × (j < N) × (P j .queue ≡ suc slot) × (P j .rank ≡ m)) → (m ≡ P t .rank → ⊥)
-          → ((r′ : ℕ) → Left (P t .rank) m r′ → r′ ≡ k) → T k
+      atIndex : (k m : ℕ) → (x : (j : ℕ) × (j < N) × (P j .queue ≡ suc slot) × (P j .rank ≡ m)) → (m ≡ P t .rank → ⊥) → Came (P t .rank) k m → T k
       atIndex k m (j, lt, e, f) ne to =
           let (e′, l) = stays j lt e (λ z. ne (sym f ∙ ap (λ (i : ℕ). P i .rank) z)) in
-          (j, lt, e′, to _ (subst (λ (x : ℕ). Left (P t .rank) x (takenOut t slot (P t .rank) j (P j) .rank)) f l))
-
-      ahead′ : (k : ℕ) → k < P t .rank → (r′ : ℕ) → Left (P t .rank) k r′ → r′ ≡ k
-      ahead′ k lt r′ (before a b) = b
-      ahead′ k lt r′ (after a b) = omega arith
-
-      behind′ : (k : ℕ) → P t .rank ≤ k → (r′ : ℕ) → Left (P t .rank) (suc k) r′ → r′ ≡ k
-      behind′ k le r′ (before a b) = omega arith
-      behind′ k le r′ (after a b) = omega arith
+          (j, lt, e′, came-order l to .3 f)
 
       some : (k : ℕ) → k < n - 1 → (b : Bool) → ltb k (P t .rank) ≡ b → T k
       some k h true e =
           let lt : k < P t .rank = ltb-true _ _ e in
-          atIndex k k (r .some k (omega arith)) (λ z. omega arith) (ahead′ k lt)
+          atIndex k k (r .some k (omega arith)) (λ z. omega arith) (before lt refl)
       some k h false e =
           let le : P t .rank ≤ k = ltb-false _ _ e in
-          atIndex k (suc k) (r .some (suc k) (omega arith)) (λ z. omega arith) (behind′ k le)
+          atIndex k (suc k) (r .some (suc k) (omega arith)) (λ z. omega arith) (after le refl)
 
 -- ---- Insert
-
--- the rank r of one that was there, and the rank r′ that it gets
-pub data Came (rank r r′ : ℕ) : Type 0 where
-  before : r < rank → r′ ≡ r → Came rank r r′
-  after : rank ≤ r → r′ ≡ suc r → Came rank r r′
-
-pub came-inj : {rank a a′ b b′ : ℕ} → Came rank a a′ → Came rank b b′ → a′ ≡ b′ → a ≡ b
-came-inj (before h e) (before k f) q = omega arith
-came-inj (before h e) (after k f) q = omega arith
-came-inj (after h e) (before k f) q = omega arith
-came-inj (after h e) (after k f) q = omega arith
-
-pub came-mono : {rank a a′ b b′ : ℕ} → Came rank a a′ → Came rank b b′ → a′ < b′ → a < b
-came-mono (before h e) (before k f) q = omega arith
-came-mono (before h e) (after k f) q = omega arith
-came-mono (after h e) (before k f) q = omega arith
-came-mono (after h e) (after k f) q = omega arith
-
-came-ne : {rank a a′ : ℕ} → Came rank a a′ → a′ ≡ rank → ⊥
-came-ne (before h e) q = omega arith
-came-ne (after h e) q = omega arith
-
-came-below : {rank a a′ n : ℕ} → Came rank a a′ → a < n → a′ < suc n
-came-below (before h e) l = omega arith
-came-below (after h e) l = omega arith
 
 -- Put record t, which stands in no queue, in at a rank of the queue.
 module _ (N : ℕ) (P : ℕ → Position) (slot n t rank : ℕ) (here : t < N) (q : P t .queue ≡ 0) (argumentsInRange : rank ≤ n) (r : Ranked N P slot n) where
@@ -258,29 +236,20 @@ module _ (N : ℕ) (P : ℕ → Position) (slot n t rank : ℕ) (here : t < N) (
       T : ℕ → Type 0
       T k = (j : ℕ) × (j < N) × (inserted t slot rank j (P j) .queue ≡ suc slot) × (inserted t slot rank j (P j) .rank ≡ k)
 
-      atIndex : (k m : ℕ) → (x : (j : ℕ) × (j < N) × (P j .queue ≡ suc slot) × (P j .rank ≡ m)) → ((r′ : ℕ) → Came rank m r′ → r′ ≡ k) → T k
-      atIndex k m (j, lt, e, f) to =
-          let (e′, c) = is j lt e in
-          (j, lt, e′, to _ (subst (λ (x : ℕ). Came rank x (inserted t slot rank j (P j) .rank)) f c))
-
-      ahead′ : (k : ℕ) → k < rank → (r′ : ℕ) → Came rank k r′ → r′ ≡ k
-      ahead′ k lt r′ (before a b) = b
-      ahead′ k lt r′ (after a b) = omega arith
-
-      behind′ : (k : ℕ) → rank < k → (r′ : ℕ) → Came rank (k - 1) r′ → r′ ≡ k
-      behind′ k lt r′ (before a b) = omega arith
-      behind′ k lt r′ (after a b) = omega arith
+      -- the one at rank m gets rank k
+      atIndex : (k m : ℕ) → (x : (j : ℕ) × (j < N) × (P j .queue ≡ suc slot) × (P j .rank ≡ m)) → Came rank m k → T k
+      atIndex k m (j, lt, e, f) to = let (e′, c) = is j lt e in (j, lt, e′, came-order c to .2 f)
 
       some : (k : ℕ) → k < suc n → (b : Bool) → eqb k rank ≡ b → (c : Bool) → ltb k rank ≡ c → T k
       some k h true e c f =
           (t, here, ap (λ (p : Position). p .queue) (in-itself t slot rank (P t)), itself t refl ∙ sym (eqb-true k rank e))
       some k h false e true f =
           let lt : k < rank = ltb-true _ _ f in
-          atIndex k k (r .some k (omega arith)) (ahead′ k lt)
+          atIndex k k (r .some k (omega arith)) (before lt refl)
       some k h false e false f =
           let le : rank ≤ k = ltb-false _ _ f in
           let ne : k ≡ rank → ⊥ = eqb-false _ _ e in
-          atIndex k (k - 1) (r .some (k - 1) (omega arith)) (behind′ k (omega arith))
+          atIndex k (k - 1) (r .some (k - 1) (omega arith)) (after (omega arith) (omega arith))
 
       one : (j k : ℕ) → j < N → k < N → inserted t slot rank j (P j) .queue ≡ suc slot → inserted t slot rank k (P k) .queue ≡ suc slot
           → inserted t slot rank j (P j) .rank ≡ inserted t slot rank k (P k) .rank → j ≡ k
@@ -293,7 +262,7 @@ module _ (N : ℕ) (P : ℕ → Position) (slot n t rank : ℕ) (here : t < N) (
           go false z false y =
               let (aj, cj) = was j hj ej (eqb-false _ _ z) in
               let (ak, ck) = was k hk ek (eqb-false _ _ y) in
-              r .one j k hj hk aj ak (came-inj cj ck e)
+              r .one j k hj hk aj ak (came-order cj ck .3 e)
 
 -- ---- Other queues
 

@@ -63,7 +63,7 @@ unfolding slice
 slice-set i n r k v h = ap (take n) (drop-set-add i r k v) ∙ take-set-lt n (drop i r) k v h
 
 -- a whole record
-spliced-take : (n x : ℕ) (t r : List ℕ) → n + x ≤ length t → take n (spliced t (n + x) r) ≡ take n t
+pub spliced-take : (n x : ℕ) (t r : List ℕ) → n + x ≤ length t → take n (spliced t (n + x) r) ≡ take n t
 unfolding spliced
 spliced-take n x t r h =
     let e : length (take (n + x) t) ≡ n + x = length-take-le (n + x) t h in
@@ -75,7 +75,7 @@ drop-take zero x l = ap (λ (m : ℕ). take m l) (zero-add x)
 drop-take (suc n) x [] = ap (drop (suc n)) (take-nil (suc n + x)) ∙ sym (take-nil x)
 drop-take (suc n) x (a ∷ l) = ap (λ (m : ℕ). drop (suc n) (take m (a ∷ l))) (suc-add n x) ∙ drop-take n x l
 
-spliced-drop : (n x : ℕ) (t r : List ℕ) → n + x ≤ length t → drop n (spliced t (n + x) r) ≡ spliced (drop n t) x r
+pub spliced-drop : (n x : ℕ) (t r : List ℕ) → n + x ≤ length t → drop n (spliced t (n + x) r) ≡ spliced (drop n t) x r
 unfolding spliced
 spliced-drop n x t r h =
     let e : length (take (n + x) t) ≡ n + x = length-take-le (n + x) t h in
@@ -135,8 +135,14 @@ pub position-inside : {stride place count size : ℕ} → Shape stride place cou
 position-inside s i h = omega (arith, s .inside, inside s i h)
 
 -- a position written where it stands changes nothing
-pub put-same : (i : ℕ) (t : List ℕ) → putPosition i (positionIn i t) t ≡ t
-put-same i t = ap (λ (l : List ℕ). set l (i + 1) (byte (i + 1) t)) (set-getD t i 0) ∙ set-getD t (i + 1) 0
+pub put-same : (i : ℕ) (t : List ℕ) {p : Position} → p ≡ positionIn i t → t ≡ putPosition i p t
+put-same i t {p} read =
+    sym (ap (λ (q : Position). putPosition i q t) read ∙ ap (λ (l : List ℕ). set l (i + 1) (byte (i + 1) t)) (set-getD t i 0) ∙ set-getD t (i + 1) 0)
+
+-- a position read, changed and written back
+pub put-changed : (f : Position → Position) (i : ℕ) (t : List ℕ) {u : List ℕ} {p q : Position} → p ≡ positionIn i t → q ≡ f p → u ≡ putPosition i q t
+    → u ≡ putPosition i (f (positionIn i t)) t
+put-changed f i t read changed written = written ∙ ap (λ (p : Position). putPosition i p t) (changed ∙ ap f read)
 
 module _ {n a k : ℕ} (F : ℕ → Position → Position) {t₀ t : List ℕ} {i : ℕ} (shape : Shape n a k (length t₀)) (hi : i < k)
     (changed : ChangedUpTo (records k n) k (moved a F) t₀ t i) where

@@ -1,7 +1,7 @@
 // The rank steps, for messages and waiters alike: a table of count records of stride bytes, each with its queue at place and its rank after it.
 ghost use mathlib.Core.Path.{_≡_};
 ghost use mathlib.Core.Bool.{true};
-ghost use Prim.Native.Nat.{_+_, _*_, _≤_, _<_};
+ghost use Prim.Native.Nat.{_+_, _*_, _<_};
 ghost use lib.ListN.{length};
 ghost use Rattle.ranks.specs.Lists.{mapWithIndex};
 ghost use Rattle.ranks.specs.Position.{inQueue, standsAt};

@@ -8,9 +8,10 @@ use mathlib.Core.List.{List, [], _∷_, map}
 use lib.Count.{ones, onesIn, ones-step}
 use Rattle.ranks.proofs.Table.{length-records, at-records}
 use Rattle.ranks.specs.Lists.{mask, countTrue}
+use Rattle.records.specs.Layout.{slotCount, queueWidth, bufferCount, bufferWidth, taskCount, taskWidth}
 use Rattle.records.specs.Records.{queueAt, bufferAt, taskAt, freeQueue, freeBuffer, freshTask}
 use Rattle.ranks.specs.Table.{slice, records}
-use Rattle.records.specs.Bytes.{decodeQueue, decodeBuffer, decodeTask, Tables, decode}
+use Rattle.records.specs.Bytes.{decodeQueue, decodeBuffer, decodeTask, Tables, decode, decodeQueueAt, decodeBufferAt, decodeTaskAt}
 use lib.ListN.{length, getD}
 
 -- ---- Reading
@@ -20,23 +21,21 @@ at-map f [] i a b h = absurd (not-suc-le-zero h)
 at-map f (x ∷ l) zero a b h = refl
 at-map f (x ∷ l) (suc i) a b h = at-map f l i a b (omega arith)
 
-pub queue-at : (t : Tables) (i : ℕ) → i < 16 → queueAt (decode t) i ≡ decodeQueue (slice (i * 16) 16 (t .queues))
-unfolding decode
-queue-at t i h =
-    at-map decodeQueue (records 16 16 (t .queues)) i [] (freeQueue 0) (omega (arith, length-records 16 16 (t .queues)))
-    ∙ ap decodeQueue (at-records 16 16 (t .queues) i h)
+-- record i of a table
+pub at-table : {A : Type 0} (read : List ℕ → A) (k n : ℕ) (t : List ℕ) (i : ℕ) → i < k → (d : A) → getD (map read (records k n t)) i d ≡ read (slice (i * n) n t)
+at-table read k n t i h d = at-map read (records k n t) i [] d (omega (arith, length-records k n t)) ∙ ap read (at-records k n t i h)
 
-pub buffer-at : (t : Tables) (b : ℕ) → b < 64 → bufferAt (decode t) b ≡ decodeBuffer (slice (b * 128) 128 (t .pool))
+pub queue-at : (t : Tables) (i : ℕ) → i < slotCount → queueAt (decode t) i ≡ decodeQueueAt i (t .queues)
 unfolding decode
-buffer-at t b h =
-    at-map decodeBuffer (records 64 128 (t .pool)) b [] freeBuffer (omega (arith, length-records 64 128 (t .pool)))
-    ∙ ap decodeBuffer (at-records 64 128 (t .pool) b h)
+queue-at t i h = at-table decodeQueue slotCount queueWidth (t .queues) i h (freeQueue 0)
 
-pub task-at : (t : Tables) (k : ℕ) → k < 32 → taskAt (decode t) k ≡ decodeTask (slice (k * 136) 136 (t .tasks))
+pub buffer-at : (t : Tables) (b : ℕ) → b < bufferCount → bufferAt (decode t) b ≡ decodeBufferAt b (t .pool)
 unfolding decode
-task-at t k h =
-    at-map decodeTask (records 32 136 (t .tasks)) k [] (freshTask 1) (omega (arith, length-records 32 136 (t .tasks)))
-    ∙ ap decodeTask (at-records 32 136 (t .tasks) k h)
+buffer-at t b h = at-table decodeBuffer bufferCount bufferWidth (t .pool) b h freeBuffer
+
+pub task-at : (t : Tables) (k : ℕ) → k < taskCount → taskAt (decode t) k ≡ decodeTaskAt k (t .tasks)
+unfolding decode
+task-at t k h = at-table decodeTask taskCount taskWidth (t .tasks) k h (freshTask 1)
 
 -- ---- A mask and its ones
 

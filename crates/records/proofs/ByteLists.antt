@@ -9,6 +9,7 @@ use lib.Dec.{ltb}
 use lib.ListN.{length, getD, take, drop, replicate}
 use borrow.Author.Tests.{ltb-true}
 use Rattle.ranks.specs.Lists.{allTrue}
+use Rattle.records.specs.Layout.{byteValues}
 use Rattle.records.specs.Bytes.{toLittleEndian, encodeQueue, encodeBuffer, encodeTask, encode}
 use Rattle.records.specs.Records.{Queue, Buffer, Task, State, freeQueue, freeBuffer, freshTask}
 use Rattle.records.specs.InRange.{AllBytes, QueueInRange, BufferInRange, TaskInRange, FieldsInRange}
@@ -17,14 +18,14 @@ use Rattle.records.proofs.DecodeEncode.{Each, each-of}
 pub bytes-nil : AllBytes []
 bytes-nil = record { below = λ i h. absurd (not-suc-le-zero h) }
 
-pub bytes-cons : {b : ℕ} {bs : List ℕ} → b < 256 → AllBytes bs → AllBytes (b ∷ bs)
+pub bytes-cons : {b : ℕ} {bs : List ℕ} → b < byteValues → AllBytes bs → AllBytes (b ∷ bs)
 bytes-cons {b} {bs} h k = record { below = at }
   where
-    at : (i : ℕ) → i < suc (length bs) → getD (b ∷ bs) i 0 < 256
+    at : (i : ℕ) → i < suc (length bs) → getD (b ∷ bs) i 0 < byteValues
     at zero lt = h
     at (suc i) lt = k .below i (omega arith)
 
-pub bytes-head : {b : ℕ} {bs : List ℕ} → AllBytes (b ∷ bs) → b < 256
+pub bytes-head : {b : ℕ} {bs : List ℕ} → AllBytes (b ∷ bs) → b < byteValues
 bytes-head h = h .below 0 (omega arith)
 
 pub bytes-tail : {b : ℕ} {bs : List ℕ} → AllBytes (b ∷ bs) → AllBytes bs
@@ -49,20 +50,20 @@ bytes-zeros zero = bytes-nil
 bytes-zeros (suc n) = bytes-cons (omega arith) (bytes-zeros n)
 
 -- a test of every number, as a fact
-pub bytes-tested : (bs : List ℕ) → allTrue (map (λ b. ltb b 256) bs) ≡ true → AllBytes bs
+pub bytes-tested : (bs : List ℕ) → allTrue (map (λ b. ltb b byteValues) bs) ≡ true → AllBytes bs
 unfolding allTrue
 bytes-tested [] e = bytes-nil
-bytes-tested (b ∷ bs) e = go (ltb b 256) refl e (bytes-tested bs)
+bytes-tested (b ∷ bs) e = go (ltb b byteValues) refl e (bytes-tested bs)
   where
-    go : (t : Bool) → ltb b 256 ≡ t → (elim t [ true ↦ allTrue (map (λ b. ltb b 256) bs) | false ↦ false ]) ≡ true
-        → (allTrue (map (λ b. ltb b 256) bs) ≡ true → AllBytes bs) → AllBytes (b ∷ bs)
+    go : (t : Bool) → ltb b byteValues ≡ t → (elim t [ true ↦ allTrue (map (λ b. ltb b byteValues) bs) | false ↦ false ]) ≡ true
+        → (allTrue (map (λ b. ltb b byteValues) bs) ≡ true → AllBytes bs) → AllBytes (b ∷ bs)
     go true p e ih = bytes-cons (ltb-true _ _ p) (ih e)
     go false p e ih = absurd (false≢true e)
 
 bytes-number : (k n : ℕ) → AllBytes (toLittleEndian k n)
 unfolding toLittleEndian
 bytes-number zero n = bytes-nil
-bytes-number (suc k) n = bytes-cons (omega arith) (bytes-number k (n / 256))
+bytes-number (suc k) n = bytes-cons (omega arith) (bytes-number k (n / byteValues))
 
 -- ---- Records and tables
 
@@ -70,8 +71,8 @@ pub bytes-queue : (q : Queue) → QueueInRange q → AllBytes (encodeQueue q)
 unfolding encodeQueue
 bytes-queue q r =
     bytes-cons (r .live) (bytes-cons (r .attributes) (bytes-cons (r .limit) (bytes-cons (r .maxSize)
-    (bytes-append (bytes-append (bytes-number 2 (q .generation))
-    (bytes-cons (r .pending) (bytes-cons (r .waiters) (bytes-number 4 (q .name))))) (r .reserved .each)))))
+    (bytes-append (bytes-number 2 (q .generation))
+    (bytes-cons (r .pending) (bytes-cons (r .waiters) (bytes-append (bytes-number 4 (q .name)) (r .reserved .each))))))))
 
 pub bytes-buffer : (m : Buffer) → BufferInRange m → AllBytes (encodeBuffer m)
 unfolding encodeBuffer
@@ -83,7 +84,7 @@ unfolding encodeTask
 bytes-task w r =
     bytes-cons (r .state) (bytes-cons (r .queue) (bytes-cons (r .rank) (bytes-cons (r .priority) (bytes-cons (r .status)
     (bytes-cons (r .messageLength)
-    (bytes-append (bytes-append (bytes-append (r .reserved .each) (bytes-number 4 (w .ticksLeft))) (r .reservedAfter .each)) (r .receiveBuffer .each)))))))
+    (bytes-append (r .reserved .each) (bytes-append (bytes-number 4 (w .ticksLeft)) (bytes-append (r .reservedAfter .each) (r .receiveBuffer .each)))))))))
 
 bytes-records : {A : Type 0} (write : A → List ℕ) (Fit : A → Type 0) → ((a : A) → Fit a → AllBytes (write a)) → (l : List A) → Each Fit l
     → AllBytes (flatten (map write l))

@@ -3,9 +3,10 @@ use Prim.Native.Nat.{ℕ, zero, suc, _+_, _*_, _/_, _^_, _<_}
 use native.Mathlib.Omega.{arith}
 use native.Mathlib.Nat.{not-suc-le-zero, div-lt-iff-lt-mul, pow-suc}
 use mathlib.Core.Path.{_≡_, refl, ap, ap₂, _∙_, subst}
-use mathlib.Core.List.{List, [], _∷_, _++_, map, flatten, append-assoc}
+use mathlib.Core.List.{List, [], _∷_, _++_, map, flatten}
 use lib.ListN.{length, getD, take, drop, length-append}
 use lib.Seq.{take-all, take-at, drop-at, drop-append-add}
+use Rattle.records.specs.Layout.{byteValues, capacity, queueWidth, bufferWidth, taskWidth}
 use Rattle.records.specs.Records.{Queue, Buffer, Task}
 use Rattle.records.specs.Bytes.{fromLittleEndian, toLittleEndian, decodeQueue, encodeQueue, decodeBuffer, encodeBuffer, decodeTask, encodeTask}
 use Rattle.ranks.specs.Table.{slice, records}
@@ -15,14 +16,14 @@ use Rattle.ranks.specs.Table.{slice, records}
 pub length-little-endian : (k n : ℕ) → length (toLittleEndian k n) ≡ k
 unfolding toLittleEndian
 length-little-endian zero n = refl
-length-little-endian (suc k) n = ap suc (length-little-endian k (n / 256))
+length-little-endian (suc k) n = ap suc (length-little-endian k (n / byteValues))
 
-pub from-to-little-endian : (k n : ℕ) → n < 256 ^ k → fromLittleEndian (toLittleEndian k n) ≡ n
+pub from-to-little-endian : (k n : ℕ) → n < byteValues ^ k → fromLittleEndian (toLittleEndian k n) ≡ n
 unfolding fromLittleEndian toLittleEndian
 from-to-little-endian zero n h = omega arith
 from-to-little-endian (suc k) n h =
-    let lt : n < 256 ^ k * 256 = subst (λ (m : ℕ). n < m) (pow-suc 256 k) h in
-    let ih : fromLittleEndian (toLittleEndian k (n / 256)) ≡ n / 256 = from-to-little-endian k (n / 256) (div-lt-iff-lt-mul (omega arith) .1 lt) in
+    let lt : n < byteValues ^ k * byteValues = subst (λ (m : ℕ). n < m) (pow-suc byteValues k) h in
+    let ih : fromLittleEndian (toLittleEndian k (n / byteValues)) ≡ n / byteValues = from-to-little-endian k (n / byteValues) (div-lt-iff-lt-mul (omega arith) .1 lt) in
     omega arith
 
 -- ---- Records
@@ -34,19 +35,19 @@ pub record QueueEncodable (q : Queue) : Type 0 where
 
 pub record BufferEncodable (m : Buffer) : Type 0 where
   pub reserved : length (m .reserved) ≡ 5
-  pub bytes : length (m .bytes) ≡ 120
+  pub bytes : length (m .bytes) ≡ capacity
 
 pub record TaskEncodable (w : Task) : Type 0 where
   pub reserved : length (w .reserved) ≡ 2
   pub ticksLeft : w .ticksLeft < 4294967296
   pub reservedAfter : length (w .reservedAfter) ≡ 4
-  pub receiveBuffer : length (w .receiveBuffer) ≡ 120
+  pub receiveBuffer : length (w .receiveBuffer) ≡ capacity
 
-pub length-queue : (q : Queue) → QueueEncodable q → length (encodeQueue q) ≡ 16
+pub length-queue : (q : Queue) → QueueEncodable q → length (encodeQueue q) ≡ queueWidth
 unfolding encodeQueue toLittleEndian
 length-queue q f = let e = f .reserved in omega arith
 
-pub length-buffer : (m : Buffer) → BufferEncodable m → length (encodeBuffer m) ≡ 128
+pub length-buffer : (m : Buffer) → BufferEncodable m → length (encodeBuffer m) ≡ bufferWidth
 unfolding encodeBuffer
 length-buffer m f =
     let e = f .reserved in
@@ -54,91 +55,62 @@ length-buffer m f =
     let l = length-append (m .reserved) (m .bytes) in
     omega arith
 
-pub length-task : (w : Task) → TaskEncodable w → length (encodeTask w) ≡ 136
+pub length-task : (w : Task) → TaskEncodable w → length (encodeTask w) ≡ taskWidth
 unfolding encodeTask
 length-task w f =
     let a = f .reserved in
     let b = f .reservedAfter in
     let c = f .receiveBuffer in
     let d = length-little-endian 4 (w .ticksLeft) in
-    let l₁ = length-append (w .reserved ++ toLittleEndian 4 (w .ticksLeft) ++ w .reservedAfter) (w .receiveBuffer) in
-    let l₂ = length-append (w .reserved ++ toLittleEndian 4 (w .ticksLeft)) (w .reservedAfter) in
-    let l₃ = length-append (w .reserved) (toLittleEndian 4 (w .ticksLeft)) in
+    let l₁ = length-append (w .reserved) (toLittleEndian 4 (w .ticksLeft) ++ (w .reservedAfter ++ w .receiveBuffer)) in
+    let l₂ = length-append (toLittleEndian 4 (w .ticksLeft)) (w .reservedAfter ++ w .receiveBuffer) in
+    let l₃ = length-append (w .reservedAfter) (w .receiveBuffer) in
     omega arith
 
 -- ---- Reading what was written
 
 pub decode-encode-queue : (q : Queue) → QueueEncodable q → decodeQueue (encodeQueue q) ≡ q
 unfolding decodeQueue encodeQueue slice toLittleEndian
-decode-encode-queue q f = λ i. record {
-  live = q .live;
-  attributes = q .attributes;
-  limit = q .limit;
-  maxSize = q .maxSize;
-  generation = from-to-little-endian 2 (q .generation) (f .generation) i;
-  pending = q .pending;
-  waiters = q .waiters;
-  name = from-to-little-endian 4 (q .name) (f .name) i;
-  reserved = take-all 4 (q .reserved) (let e = f .reserved in omega arith) i;
-}
+decode-encode-queue q f =
+    rw (from-to-little-endian 2 (q .generation) (f .generation), from-to-little-endian 4 (q .name) (f .name), take-all 4 (q .reserved) (omega (arith, f .reserved)))
 
 pub decode-encode-buffer : (m : Buffer) → BufferEncodable m → decodeBuffer (encodeBuffer m) ≡ m
 unfolding decodeBuffer encodeBuffer slice
-decode-encode-buffer m f = λ i. record {
-  position = m .position;
-  messageLength = m .messageLength;
-  reserved = take-at (m .reserved) (m .bytes) 5 (f .reserved) i;
-  bytes = (ap (take 120) (drop-at (m .reserved) (m .bytes) 5 (f .reserved)) ∙ take-all 120 (m .bytes) (let e = f .bytes in omega arith)) i;
-}
+decode-encode-buffer m f =
+    rw (take-at (m .reserved) (m .bytes) 5 (f .reserved), drop-at (m .reserved) (m .bytes) 5 (f .reserved), take-all capacity (m .bytes) (omega (arith, f .bytes)))
+
+-- what stands behind the first n bytes
+behind : (xs ys : List ℕ) (n k : ℕ) → length xs ≡ n → drop (n + k) (xs ++ ys) ≡ drop k ys
+behind xs ys n k e = subst (λ (m : ℕ). drop (m + k) (xs ++ ys) ≡ drop k ys) e (drop-append-add xs ys k)
 
 pub decode-encode-task : (w : Task) → TaskEncodable w → decodeTask (encodeTask w) ≡ w
 unfolding decodeTask encodeTask slice
-decode-encode-task w f = λ i. record {
-  state = w .state;
-  position = w .position;
-  priority = w .priority;
-  status = w .status;
-  messageLength = w .messageLength;
-  reserved = spare′ i;
-  ticksLeft = ticks′ i;
-  reservedAfter = after′ i;
-  receiveBuffer = bytes′ i;
-}
+decode-encode-task w f =
+    rw (
+      take-at (w .reserved) behind-two 2 (f .reserved),
+      drop-at (w .reserved) behind-two 2 (f .reserved),
+      take-at ticks behind-six 4 four,
+      from-to-little-endian 4 (w .ticksLeft) (f .ticksLeft),
+      behind (w .reserved) behind-two 2 4 (f .reserved),
+      drop-at ticks behind-six 4 four,
+      take-at (w .reservedAfter) (w .receiveBuffer) 4 (f .reservedAfter),
+      behind (w .reserved) behind-two 2 8 (f .reserved),
+      behind ticks behind-six 4 4 four,
+      drop-at (w .reservedAfter) (w .receiveBuffer) 4 (f .reservedAfter),
+      take-all capacity (w .receiveBuffer) (omega (arith, f .receiveBuffer)),
+    )
   where
-    d : List ℕ
-    d = toLittleEndian 4 (w .ticksLeft)
+    ticks : List ℕ
+    ticks = toLittleEndian 4 (w .ticksLeft)
 
-    rest : List ℕ
-    rest = w .reserved ++ d ++ w .reservedAfter ++ w .receiveBuffer
+    behind-six : List ℕ
+    behind-six = w .reservedAfter ++ w .receiveBuffer
 
-    by-two : rest ≡ w .reserved ++ (d ++ (w .reservedAfter ++ w .receiveBuffer))
-    by-two = simp append-assoc
+    behind-two : List ℕ
+    behind-two = ticks ++ behind-six
 
-    by-six : rest ≡ (w .reserved ++ d) ++ (w .reservedAfter ++ w .receiveBuffer)
-    by-six = append-assoc (w .reserved ++ d) (w .reservedAfter) (w .receiveBuffer)
-
-    six : length (w .reserved ++ d) ≡ 6
-    six = omega (arith, length-append (w .reserved) d, length-little-endian 4 (w .ticksLeft), f .reserved)
-
-    ten : length (w .reserved ++ d ++ w .reservedAfter) ≡ 10
-    ten = omega (arith, length-append (w .reserved ++ d) (w .reservedAfter), six, f .reservedAfter)
-
-    spare′ : take 2 rest ≡ w .reserved
-    spare′ = ap (take 2) by-two ∙ take-at (w .reserved) _ 2 (f .reserved)
-
-    ticks′ : fromLittleEndian (take 4 (drop 2 rest)) ≡ w .ticksLeft
-    ticks′ =
-        ap fromLittleEndian
-        (ap (λ (l : List ℕ). take 4 (drop 2 l)) by-two ∙ ap (take 4) (drop-at (w .reserved) _ 2 (f .reserved)) ∙ take-at d _ 4 (length-little-endian 4 (w .ticksLeft)))
-        ∙ from-to-little-endian 4 (w .ticksLeft) (f .ticksLeft)
-
-    after′ : take 4 (drop 6 rest) ≡ w .reservedAfter
-    after′ = ap (λ (l : List ℕ). take 4 (drop 6 l)) by-six ∙ ap (take 4) (drop-at (w .reserved ++ d) _ 6 six) ∙ take-at (w .reservedAfter) _ 4 (f .reservedAfter)
-
-    bytes′ : take 120 (drop 10 rest) ≡ w .receiveBuffer
-    bytes′ =
-        ap (take 120) (drop-at (w .reserved ++ d ++ w .reservedAfter) (w .receiveBuffer) 10 ten)
-        ∙ take-all 120 (w .receiveBuffer) (omega (arith, f .receiveBuffer))
+    four : length ticks ≡ 4
+    four = length-little-endian 4 (w .ticksLeft)
 
 -- ---- Tables
 

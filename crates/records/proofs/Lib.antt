@@ -2,6 +2,7 @@ pub mod Access
 pub mod ByteLists
 pub mod DecodeEncode
 pub mod EncodeDecode
+pub mod Fits
 pub mod InTurn
 pub mod RecordCases
 pub mod Statuses

@@ -14,7 +14,7 @@ unfolding numbersFrom toLittleEndian encodeQueue encodeBuffer encodeTask example
 record-cases = refl
 
 split-cases : map (λ k. k .actual) splitCases ≡ map (λ k. k .expected) splitCases
-unfolding numbersFrom firstTrue split shareOfSlot shareOfBuffer shareOfTask shareLimit splitCases
+unfolding numbersFrom firstTrue shareOfSlot shareOfBuffer shareOfTask shareLimit splitCases
 split-cases = refl
 
 queue-read : decodeQueue queueBytes ≡ exampleQueue

@@ -11,7 +11,8 @@ use lib.ListN.{getD}
 use borrow.Author.Tests.{leb-true, ltb-true}
 use Rattle.ranks.specs.Lists.{if_then_else_, allTrue, every, firstTrue, mapFromIndex, mapWithIndex, numbersFrom}
 use Rattle.ranks.proofs.Lists.{every-at, length-range, at-range}
-use Rattle.records.specs.Split.{split, shareOfSlot, shareOfBuffer, shareOfTask, firstBuffer, shareLimit}
+use Rattle.records.specs.Layout.{slotCount, bufferCount, taskCount}
+use Rattle.records.specs.Split.{shareOfSlot, shareOfBuffer, shareOfTask, firstBuffer, shareLimit, shareCount}
 use Rattle.records.proofs.Access.{at-map}
 
 pub agree : (f g : ℕ → ℕ) (n : ℕ) → map f (numbersFrom 0 n) ≡ map g (numbersFrom 0 n) → (i : ℕ) → i < n → f i ≡ g i
@@ -26,17 +27,17 @@ computed f n e i h =
 
 -- ---- The split into shares
 
-pub slot-share-below : (slot : ℕ) → slot < 16 → shareOfSlot slot < 4
-unfolding allTrue mapFromIndex mapWithIndex numbersFrom firstTrue split shareOfSlot
-slot-share-below slot h = ltb-true _ _ (computed (λ i. ltb (shareOfSlot i) 4) 16 refl slot h)
+pub slot-share-below : (slot : ℕ) → slot < slotCount → shareOfSlot slot < shareCount
+unfolding allTrue mapFromIndex mapWithIndex numbersFrom firstTrue shareOfSlot
+slot-share-below slot h = ltb-true _ _ (computed (λ i. ltb (shareOfSlot i) shareCount) slotCount refl slot h)
 
-pub task-share-below : (t : ℕ) → t < 32 → shareOfTask t < 4
-unfolding allTrue mapFromIndex mapWithIndex numbersFrom firstTrue split shareOfTask
-task-share-below t h = ltb-true _ _ (computed (λ i. ltb (shareOfTask i) 4) 32 refl t h)
+pub task-share-below : (t : ℕ) → t < taskCount → shareOfTask t < shareCount
+unfolding allTrue mapFromIndex mapWithIndex numbersFrom firstTrue shareOfTask
+task-share-below t h = ltb-true _ _ (computed (λ i. ltb (shareOfTask i) shareCount) taskCount refl t h)
 
-pub buffers-end : (share : ℕ) → share < 4 → firstBuffer share + shareLimit share ≤ 64
-unfolding allTrue mapFromIndex mapWithIndex numbersFrom split firstBuffer shareLimit
-buffers-end share h = leb-true _ _ (computed (λ p. leb (firstBuffer p + shareLimit p) 64) 4 refl share h)
+pub buffers-end : (share : ℕ) → share < shareCount → firstBuffer share + shareLimit share ≤ bufferCount
+unfolding allTrue mapFromIndex mapWithIndex numbersFrom firstBuffer shareLimit
+buffers-end share h = leb-true _ _ (computed (λ p. leb (firstBuffer p + shareLimit p) bufferCount) shareCount refl share h)
 
 -- a share's buffers are those from its first on
 abbrev inside : (share b : ℕ) → Bool
@@ -45,16 +46,16 @@ inside share b = leb (firstBuffer share) b && ltb b (firstBuffer share + shareLi
 same : Bool → Bool → Bool
 same x y = if x then y else not y
 
-all-same : every (λ _ p. every (λ _ b. same (inside p b) (eqb p (shareOfBuffer b))) (numbersFrom 0 64)) (numbersFrom 0 4) ≡ true
-unfolding allTrue mapFromIndex mapWithIndex numbersFrom firstTrue split shareOfBuffer firstBuffer shareLimit same
+all-same : every (λ _ p. every (λ _ b. same (inside p b) (eqb p (shareOfBuffer b))) (numbersFrom 0 bufferCount)) (numbersFrom 0 shareCount) ≡ true
+unfolding allTrue mapFromIndex mapWithIndex numbersFrom firstTrue shareOfBuffer firstBuffer shareLimit same
 all-same = refl
 
-pub share-buffers : (share b : ℕ) → share < 4 → b < 64 → (leb (firstBuffer share) b && ltb b (firstBuffer share + shareLimit share)) ≡ eqb share (shareOfBuffer b)
+pub share-buffers : (share b : ℕ) → share < shareCount → b < bufferCount → (leb (firstBuffer share) b && ltb b (firstBuffer share + shareLimit share)) ≡ eqb share (shareOfBuffer b)
 unfolding same
 share-buffers share b h k =
     are-same (inside share b) (eqb share (shareOfBuffer b))
-    (computed (λ b. same (inside share b) (eqb share (shareOfBuffer b))) 64
-    (computed (λ p. every (λ _ b. same (inside p b) (eqb p (shareOfBuffer b))) (numbersFrom 0 64)) 4 all-same share h) b k)
+    (computed (λ b. same (inside share b) (eqb share (shareOfBuffer b))) bufferCount
+    (computed (λ p. every (λ _ b. same (inside p b) (eqb p (shareOfBuffer b))) (numbersFrom 0 bufferCount)) shareCount all-same share h) b k)
   where
     are-same : (x y : Bool) → same x y ≡ true → x ≡ y
     are-same true y e = sym e

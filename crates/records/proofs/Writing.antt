@@ -1,25 +1,27 @@
 -- Bytes written to the tables, and what becomes of the records. Assumes nothing.
-use Prim.Native.Nat.{ℕ, zero, suc, _+_, _-_, _*_, _/_, _%_, _^_, _≤_, _<_}
-use native.Mathlib.Nat.{pow-suc, mul-comm, mul-assoc}
+use Prim.Native.Nat.{ℕ, zero, suc, _+_, _-_, _*_, _^_, _≤_, _<_}
+use native.Mathlib.Nat.{zero-add, pow-suc, mul-comm, mul-assoc}
 use native.Mathlib.Omega.{arith}
-use mathlib.Core.Path.{_≡_, refl, sym, ap, _∙_}
+use mathlib.Core.Path.{_≡_, refl, sym, ap, ap₂, _∙_}
 use mathlib.Core.Bool.{Bool, true, false}
 use mathlib.Core.Logic.{⊎-elim}
 use mathlib.Core.List.{List, [], _∷_, _++_, map, append-assoc}
-use lib.ListN.{length, getD, take, drop, set, replicate, length-set, length-map, length-drop, length-append}
-use lib.Seq.{getD-set-same, getD-set-other, set-getD, drop-cons, drop-drop, take-all, take-at, take-add, drop-at, length-take-le}
+use lib.ListN.{length, getD, take, drop, set, replicate, length-set, length-map, length-drop, length-append, take-append-drop}
+use lib.Seq.{getD-set-same, getD-set-other, set-getD, drop-cons, drop-drop, take-all, take-add}
 use borrow.Author.Tests.{eq-eqb, ne-eqb}
 use Rattle.ranks.specs.Lists.{if_then_else_, mapWithIndex}
-use Rattle.ranks.specs.Position.{Position, noQueue}
+use Rattle.ranks.specs.Position.{Position}
 use Rattle.ranks.specs.Table.{slice, byte, records, spliced, positionIn, putPosition, moved}
 use Rattle.ranks.proofs.Tests.{same?}
 use Rattle.ranks.proofs.Lists.{at-mapped, length-mapped, is-mapped}
-use Rattle.ranks.proofs.Table.{length-records, at-records, length-slice, before, records-put}
+use Rattle.ranks.proofs.Table.{length-records, at-records, length-slice, before, records-put, drop-take, spliced-take, spliced-drop}
+use Rattle.records.specs.Layout.{byteValues, capacity, bufferCount, bufferWidth, bufferPosition, bufferData, poolSize, taskCount, taskWidth, taskPosition, taskData, tasksSize}
 use Rattle.records.specs.Records.{Task, freeBuffer, freshTask}
 use Rattle.records.specs.Bytes.{fromLittleEndian, toLittleEndian, decodeBuffer, encodeBuffer, decodeTask, decodePool, decodeTasks}
-use Rattle.records.specs.Changes.{atIndex, moveBuffer, moveTask, messageBuffer, withMessage}
-use Rattle.records.specs.TaskHeads.{withHead}
+use Rattle.records.specs.Changes.{atIndex, moveBuffer, moveTask, overwriteFront, messageBuffer, withMessage}
+use Rattle.records.specs.TaskHeads.{headOf, withHead, messageHead}
 use Rattle.records.proofs.DecodeEncode.{BufferEncodable, from-to-little-endian}
+use Rattle.records.proofs.Access
 use Rattle.records.proofs.Access.{at-map}
 use Rattle.records.specs.declared.task.TaskHead.{TaskHead}
 
@@ -41,7 +43,7 @@ four r i h =
     ∙ (λ k. byte i r ∷ byte ((let e : suc i ≡ i + 1 = omega arith in e) k) r ∷ byte ((let e : suc (suc i) ≡ i + 2 = omega arith in e) k) r
     ∷ byte ((let e : suc (suc (suc i)) ≡ i + 3 = omega arith in e) k) r ∷ [])
 
-pub half-number : (r : List ℕ) (i : ℕ) → i + 2 ≤ length r → byte i r + 256 * byte (i + 1) r ≡ fromLittleEndian (slice i 2 r)
+pub half-number : (r : List ℕ) (i : ℕ) → i + 2 ≤ length r → byte i r + byteValues * byte (i + 1) r ≡ fromLittleEndian (slice i 2 r)
 unfolding fromLittleEndian
 half-number r i h = rw (two r i h) (omega arith)
 
@@ -50,20 +52,25 @@ pub slice-add : (i m n : ℕ) (r : List ℕ) → slice i (m + n) r ≡ slice i m
 unfolding slice
 slice-add i m n r = take-add m n (drop i r) ∙ ap (λ (l : List ℕ). take m (drop i r) ++ take n l) (drop-drop m i r)
 
-number-append : (xs ys : List ℕ) → fromLittleEndian (xs ++ ys) ≡ fromLittleEndian xs + 256 ^ length xs * fromLittleEndian ys
+-- a part, and what stands behind it
+pub part-and-rest : (i n : ℕ) (r : List ℕ) → drop i r ≡ slice i n r ++ drop (i + n) r
+unfolding slice
+part-and-rest i n r = sym (take-append-drop n (drop i r)) ∙ ap (λ (l : List ℕ). take n (drop i r) ++ l) (drop-drop n i r)
+
+number-append : (xs ys : List ℕ) → fromLittleEndian (xs ++ ys) ≡ fromLittleEndian xs + byteValues ^ length xs * fromLittleEndian ys
 unfolding fromLittleEndian
 number-append [] ys = omega arith
 number-append (x ∷ xs) ys =
-    let e : 256 ^ suc (length xs) * fromLittleEndian ys ≡ 256 * (256 ^ length xs * fromLittleEndian ys)
-    = ap (λ (n : ℕ). n * fromLittleEndian ys) (pow-suc 256 (length xs) ∙ mul-comm (256 ^ length xs) 256) ∙ mul-assoc 256 (256 ^ length xs) (fromLittleEndian ys) in
+    let e : byteValues ^ suc (length xs) * fromLittleEndian ys ≡ byteValues * (byteValues ^ length xs * fromLittleEndian ys)
+    = ap (λ (n : ℕ). n * fromLittleEndian ys) (pow-suc byteValues (length xs) ∙ mul-comm (byteValues ^ length xs) byteValues) ∙ mul-assoc byteValues (byteValues ^ length xs) (fromLittleEndian ys) in
     omega (arith, number-append xs ys, e)
 
 -- a number in two parts
 pub number-add : (i m n : ℕ) (r : List ℕ) → i + m ≤ length r
-    → fromLittleEndian (slice i m r) + 256 ^ m * fromLittleEndian (slice (i + m) n r) ≡ fromLittleEndian (slice i (m + n) r)
+    → fromLittleEndian (slice i m r) + byteValues ^ m * fromLittleEndian (slice (i + m) n r) ≡ fromLittleEndian (slice i (m + n) r)
 number-add i m n r h =
     sym (ap fromLittleEndian (slice-add i m n r) ∙ number-append (slice i m r) (slice (i + m) n r)
-    ∙ ap (λ (k : ℕ). fromLittleEndian (slice i m r) + 256 ^ k * fromLittleEndian (slice (i + m) n r)) (length-slice i m r h))
+    ∙ ap (λ (k : ℕ). fromLittleEndian (slice i m r) + byteValues ^ k * fromLittleEndian (slice (i + m) n r)) (length-slice i m r h))
 
 -- two and four bytes one by one
 pub all-two : (l : List ℕ) → length l ≡ 2 → l ≡ byte 0 l ∷ byte 1 l ∷ []
@@ -104,7 +111,7 @@ module _ {A : Type 0} (read : List ℕ → A) (k n : ℕ) (t : List ℕ) (i : �
   length-table = length-decoded read k n t
 
   pub at-table : getD (map read (records k n t)) i d ≡ read (slice (i * n) n t)
-  at-table = at-map read (records k n t) i [] d (omega (arith, length-records k n t)) ∙ ap read (at-records k n t i hi)
+  at-table = Access.at-table read k n t i hi d
 
   -- the record as the borrow checker says it where it is lent
   pub at-lent : getD (map read (records k n t)) i d ≡ read (take (i * n + n - i * n) (drop (i * n) t))
@@ -174,75 +181,59 @@ module _ {A : Type 0} (read : List ℕ → A) (pos : A → Position) (place : Po
       let l : length r ≡ n = ap length (at-records k n t i hi) ∙ length-slice (i * n) n t (omega (arith, before n i k hi)) in
       at-place r l (F i (positionIn a r)) ∙ ap (λ (p : Position). place (F i p) (read r)) (at-pos r))
 
-buffer-placed : (r : List ℕ) → length r ≡ 128 → (p : Position) → decodeBuffer (putPosition 0 p r) ≡ moveBuffer p (decodeBuffer r)
+buffer-placed : (r : List ℕ) → length r ≡ bufferWidth → (p : Position) → decodeBuffer (putPosition bufferPosition p r) ≡ moveBuffer p (decodeBuffer r)
 unfolding decodeBuffer slice
 buffer-placed [] e p = absurd (omega arith)
 buffer-placed (x ∷ []) e p = absurd (omega arith)
 buffer-placed (x ∷ y ∷ r) e p = refl
 
-task-placed : (r : List ℕ) → length r ≡ 136 → (p : Position) → decodeTask (putPosition 1 p r) ≡ moveTask p (decodeTask r)
+task-placed : (r : List ℕ) → length r ≡ taskWidth → (p : Position) → decodeTask (putPosition taskPosition p r) ≡ moveTask p (decodeTask r)
 unfolding decodeTask slice
 task-placed [] e p = absurd (omega arith)
 task-placed (x ∷ []) e p = absurd (omega arith)
 task-placed (x ∷ y ∷ []) e p = absurd (omega arith)
 task-placed (x ∷ y ∷ z ∷ r) e p = refl
 
-pub pool-moved : (F : ℕ → Position → Position) (t u : List ℕ) → length t ≡ 8192 → records 64 128 u ≡ mapWithIndex (moved 0 F) (records 64 128 t)
+pub pool-moved : (F : ℕ → Position → Position) (t u : List ℕ) → length t ≡ poolSize → records bufferCount bufferWidth u ≡ mapWithIndex (moved bufferPosition F) (records bufferCount bufferWidth t)
     → decodePool u ≡ mapWithIndex (λ j m. moveBuffer (F j (m .position)) m) (decodePool t)
 unfolding decodeBuffer
-pool-moved = table-moved decodeBuffer (λ m. m .position) moveBuffer 64 128 0 freeBuffer buffer-placed (λ r. refl)
+pool-moved = table-moved decodeBuffer (λ m. m .position) moveBuffer bufferCount bufferWidth bufferPosition freeBuffer buffer-placed (λ r. refl)
 
-pub tasks-moved : (F : ℕ → Position → Position) (t u : List ℕ) → length t ≡ 4352 → records 32 136 u ≡ mapWithIndex (moved 1 F) (records 32 136 t)
+pub tasks-moved : (F : ℕ → Position → Position) (t u : List ℕ) → length t ≡ tasksSize → records taskCount taskWidth u ≡ mapWithIndex (moved taskPosition F) (records taskCount taskWidth t)
     → decodeTasks u ≡ mapWithIndex (λ j w. moveTask (F j (w .position)) w) (decodeTasks t)
 unfolding decodeTask
-tasks-moved = table-moved decodeTask (λ w. w .position) moveTask 32 136 1 (freshTask 1) task-placed (λ r. refl)
+tasks-moved = table-moved decodeTask (λ w. w .position) moveTask taskCount taskWidth taskPosition (freshTask 1) task-placed (λ r. refl)
 
 -- ---- A message in a buffer, and in a task's record
 
-pub message-record : (p : Position) (m : List ℕ) → spliced (set (set (set (replicate 128 0) 0 (p .queue)) 1 (p .rank)) 2 (length m)) 8 m ≡ encodeBuffer (messageBuffer p m)
+pub message-record : (p : Position) (m : List ℕ) → spliced (set (set (set (replicate bufferWidth 0) 0 (p .queue)) 1 (p .rank)) 2 (length m)) bufferData m ≡ encodeBuffer (messageBuffer p m)
 unfolding spliced encodeBuffer
 message-record p m =
     ap (λ (l : List ℕ). p .queue ∷ p .rank ∷ length m ∷ 0 ∷ 0 ∷ 0 ∷ 0 ∷ 0 ∷ (m ++ l))
-    (sym (drop-drop (length m) 8 (set (set (set (replicate 128 0) 0 (p .queue)) 1 (p .rank)) 2 (length m))))
+    (sym (drop-drop (length m) bufferData (set (set (set (replicate bufferWidth 0) 0 (p .queue)) 1 (p .rank)) 2 (length m))))
 
-module _ (r m : List ℕ) (long : length r ≡ 136) (short : length m ≤ 120) where
-  abbrev head : List ℕ
-  head = 0 ∷ 0 ∷ 0 ∷ byte 3 r ∷ 0 ∷ length m ∷ byte 6 r ∷ byte 7 r ∷ 0 ∷ 0 ∷ 0 ∷ 0 ∷ []
+module _ (r m : List ℕ) (long : length r ≡ taskWidth) (short : length m ≤ capacity) where
+  -- the bytes before the receive buffer stay
+  kept : slice 12 4 (spliced r taskData m) ≡ slice 12 4 r
+  unfolding slice
+  kept = sym (drop-take 12 4 (spliced r taskData m)) ∙ ap (drop 12) (spliced-take taskData 0 r m (omega arith)) ∙ drop-take 12 4 r
 
-  abbrev got : List ℕ
-  got = spliced (spliced r 0 head) 16 m
+  put : slice taskData capacity (spliced r taskData m) ≡ overwriteFront m (slice taskData capacity r)
+  unfolding slice spliced
+  put =
+      let back : List ℕ = drop taskData r in
+      let e : length back ≡ capacity = omega (arith, length-drop taskData r) in
+      ap (take capacity) (spliced-drop taskData 0 r m (omega arith) ∙ ap (λ (n : ℕ). m ++ drop n back) (zero-add (length m)))
+      ∙ take-all capacity (m ++ drop (length m) back) (omega (arith, length-append m (drop (length m) back), length-drop (length m) back))
+      ∙ ap (λ (l : List ℕ). m ++ drop (length m) l) (sym (take-all capacity back (omega arith)))
 
-  abbrev kept : List ℕ
-  kept = take 4 (drop 12 r)
-
-  abbrev tail : List ℕ
-  tail = drop (16 + length m) (spliced r 0 head)
-
-  four-kept : length kept ≡ 4
-  four-kept = length-take-le 4 (drop 12 r) (omega (arith, length-drop 12 r))
-
-  tail-is : tail ≡ drop (length m) (drop 16 r)
-  unfolding spliced
-  tail-is = sym (drop-drop (length m) 16 (head ++ drop 12 r)) ∙ ap (drop (length m)) (drop-drop 4 12 r)
-
-  pub task-delivered : decodeTask got ≡ withMessage m (decodeTask r)
-  unfolding decodeTask spliced slice fromLittleEndian
-  task-delivered = λ i. record {
-    state = 0;
-    position = noQueue;
-    priority = byte 3 r;
-    status = 0;
-    messageLength = length m;
-    reserved = sym (two r 6 (omega arith)) i;
-    ticksLeft = 0;
-    reservedAfter = (ap (take 4) (append-assoc kept m tail) ∙ take-at kept (m ++ tail) 4 four-kept) i;
-    receiveBuffer =
-        (ap (λ (l : List ℕ). take 120 (drop 4 l)) (append-assoc kept m tail)
-        ∙ ap (take 120) (drop-at kept (m ++ tail) 4 four-kept ∙ ap (λ (l : List ℕ). m ++ l) tail-is)
-        ∙ take-all 120 (m ++ drop (length m) (drop 16 r))
-        (omega (arith, length-append m (drop (length m) (drop 16 r)), length-drop (length m) (drop 16 r), length-drop 16 r))
-        ∙ ap (λ (l : List ℕ). m ++ drop (length m) l) (sym (take-all 120 (drop 16 r) (omega (arith, length-drop 16 r))))) i;
-  }
+  -- a message put into the record, and then the head that says so
+  pub task-delivered : {u : List ℕ} {h made : TaskHead} {w : Task} → h ≡ headOf (decodeTask r) → made ≡ messageHead (length m) h → u ≡ spliced r taskData m
+      → w ≡ withHead made (decodeTask u) → w ≡ withMessage m (decodeTask r)
+  unfolding decodeTask
+  task-delivered read makes copied written =
+      written ∙ ap₂ withHead (makes ∙ ap (messageHead (length m)) read) (ap decodeTask copied)
+      ∙ rw (kept, put)
 
 -- a part lent and handed back, as the borrow checker says it
 pub slice-back : (t r : List ℕ) (a e : ℕ) → a ≤ e → length r ≡ e - a → take a t ++ (r ++ drop (e - a) (drop a t)) ≡ spliced t a r
@@ -252,43 +243,35 @@ slice-back t r a e h l =
     ∙ ap (λ (x : List ℕ). take a t ++ r ++ x) (drop-drop (e - a) a t ∙ ap (λ (n : ℕ). drop n t) (let q : a + (e - a) ≡ a + length r = omega arith in q))
 
 -- a task's record lent to code that does `f` to it
-pub tasks-lent : (t r : List ℕ) (i : ℕ) (f : Task → Task) → length t ≡ 4352 → i < 32 → length r ≡ length (take (i * 136 + 136 - i * 136) (drop (i * 136) t))
-    → decodeTask r ≡ f (decodeTask (take (i * 136 + 136 - i * 136) (drop (i * 136) t)))
-    → decodeTasks (take (i * 136) t ++ (r ++ drop (i * 136 + 136 - i * 136) (drop (i * 136) t))) ≡ mapWithIndex (atIndex i f) (decodeTasks t)
+pub tasks-lent : (t r : List ℕ) (i : ℕ) (f : Task → Task) → length t ≡ tasksSize → i < taskCount → length r ≡ length (take (i * taskWidth + taskWidth - i * taskWidth) (drop (i * taskWidth) t))
+    → decodeTask r ≡ f (decodeTask (take (i * taskWidth + taskWidth - i * taskWidth) (drop (i * taskWidth) t)))
+    → decodeTasks (take (i * taskWidth) t ++ (r ++ drop (i * taskWidth + taskWidth - i * taskWidth) (drop (i * taskWidth) t))) ≡ mapWithIndex (atIndex i f) (decodeTasks t)
 tasks-lent t r i f l h e same =
-    let at = slice-lent t (i * 136) 136 in
-    let n : length r ≡ 136 = e ∙ ap length at ∙ length-slice (i * 136) 136 t (omega arith) in
-    ap decodeTasks (slice-back t r (i * 136) (i * 136 + 136) (omega arith) (omega arith))
-    ∙ table-put decodeTask 32 136 t i h (freshTask 1) r f n (omega arith) (same ∙ ap (λ (x : List ℕ). f (decodeTask x)) at)
+    let at = slice-lent t (i * taskWidth) taskWidth in
+    let n : length r ≡ taskWidth = e ∙ ap length at ∙ length-slice (i * taskWidth) taskWidth t (omega arith) in
+    ap decodeTasks (slice-back t r (i * taskWidth) (i * taskWidth + taskWidth) (omega arith) (omega arith))
+    ∙ table-put decodeTask taskCount taskWidth t i h (freshTask 1) r f n (omega arith) (same ∙ ap (λ (x : List ℕ). f (decodeTask x)) at)
 
 -- a buffer that holds a message has as many bytes as a buffer has
-pub message-fits : (p : Position) (m : List ℕ) → length m ≤ 120 → BufferEncodable (messageBuffer p m)
+pub message-fits : (p : Position) (m : List ℕ) → length m ≤ capacity → BufferEncodable (messageBuffer p m)
 message-fits p m h =
-    let z : List ℕ = replicate 120 0 in
+    let z : List ℕ = replicate capacity 0 in
     record { reserved = refl; bytes = omega (arith, length-append m (drop (length m) z), length-drop (length m) z) }
 
-pub zeros-free : decodeBuffer (replicate 128 0) ≡ freeBuffer
+pub zeros-free : decodeBuffer (replicate bufferWidth 0) ≡ freeBuffer
 unfolding decodeBuffer slice
 zeros-free = refl
 
 -- ---- A task's head
 
-abbrev pub headBytes : TaskHead → List ℕ
-headBytes h =
-    h .state ∷ h .queue ∷ h .rank ∷ h .priority ∷ h .status ∷ h .messageLength ∷ byte 0 (h .reserved) ∷ byte 1 (h .reserved) ∷ h .ticksLeft % 256
-    ∷ h .ticksLeft / 256 % 256 ∷ h .ticksLeft / 256 / 256 % 256 ∷ h .ticksLeft / 256 / 256 / 256 % 256 ∷ []
+-- the bytes of a head, with those of its ticks
+abbrev pub headBytes : TaskHead → (ticks : List ℕ) → List ℕ
+headBytes h ticks =
+    h .state ∷ h .queue ∷ h .rank ∷ h .priority ∷ h .status ∷ h .messageLength ∷ byte 0 (h .reserved) ∷ byte 1 (h .reserved)
+    ∷ byte 0 ticks ∷ byte 1 ticks ∷ byte 2 ticks ∷ byte 3 ticks ∷ []
 
-pub head-written : (h : TaskHead) (r : List ℕ) → length (h .reserved) ≡ 2 → h .ticksLeft < 4294967296
-    → decodeTask (spliced r 0 (headBytes h)) ≡ withHead h (decodeTask r)
+pub head-written : (h : TaskHead) (ticks r : List ℕ) → length (h .reserved) ≡ 2 → (ticks ≡ toLittleEndian 4 (h .ticksLeft)) × (h .ticksLeft < byteValues ^ 4)
+    → decodeTask (spliced r 0 (headBytes h ticks)) ≡ withHead h (decodeTask r)
 unfolding decodeTask spliced slice toLittleEndian
-head-written h r two-long fits = λ i. record {
-  state = h .state;
-  position = record { queue = h .queue; rank = h .rank };
-  priority = h .priority;
-  status = h .status;
-  messageLength = h .messageLength;
-  reserved = sym (all-two (h .reserved) two-long) i;
-  ticksLeft = from-to-little-endian 4 (h .ticksLeft) fits i;
-  reservedAfter = take 4 (drop 12 r);
-  receiveBuffer = take 120 (drop-drop 4 12 r i);
-}
+head-written h ticks r two-long (e, fits) =
+    rw (← all-two (h .reserved) two-long, e, from-to-little-endian 4 (h .ticksLeft) fits, drop-drop 4 12 r)

@@ -1,27 +1,21 @@
--- Zero bytes, and the parts of a list of bytes. Assumes nothing.
-use Prim.Native.Nat.{ℕ, zero, suc, _+_, _-_, _*_, _≤_, _<_}
+-- Zero bytes. Assumes nothing.
+use Prim.Native.Nat.{ℕ, _+_, _-_, _*_, _≤_, _<_}
 use native.Mathlib.Omega.{arith}
 use mathlib.Core.Path.{_≡_, refl, sym, ap, ap₂, _∙_}
 use mathlib.Core.Bool.{Bool, true, false, _&&_, and-assoc, and-true}
 use mathlib.Core.Logic.{_⊎_, inl, inr}
 use mathlib.Core.List.{List, [], _∷_, _++_}
 use lib.Dec.{eqb}
-use lib.ListN.{length, take, drop, length-drop, drop-of-length-le, take-append-drop}
-use lib.Seq.{drop-cons, drop-drop, take-all}
+use lib.ListN.{length, take, drop, length-drop, drop-of-length-le}
+use lib.Seq.{drop-cons, take-all}
 use borrow.Author.Tests.{eq-eqb, ne-eqb}
 use Rattle.ranks.specs.Lists.{allZero}
 use Rattle.ranks.specs.Table.{slice, byte}
 use Rattle.ranks.proofs.Lists.{zeros-cons, zeros-nil}
 use Rattle.ranks.proofs.Tests.{same?}
+use Rattle.records.specs.Layout.{byteValues}
 use Rattle.records.specs.Bytes.{fromLittleEndian}
-use Rattle.records.proofs.Writing.{slice-add}
-
--- ---- Parts
-
--- a part, and what stands behind it
-pub part-and-rest : (i n : ℕ) (r : List ℕ) → drop i r ≡ slice i n r ++ drop (i + n) r
-unfolding slice
-part-and-rest i n r = sym (take-append-drop n (drop i r)) ∙ ap (λ (l : List ℕ). take n (drop i r) ++ l) (drop-drop n i r)
+use Rattle.records.proofs.Writing.{slice-add, part-and-rest}
 
 -- ---- Zeros
 
@@ -49,15 +43,15 @@ zero-number [] = sym zeros-nil
 zero-number (b ∷ bs) = go (same? b 0) (same? (fromLittleEndian bs) 0) (sym (zero-number bs)) ∙ sym (zeros-cons b bs)
   where
     go : (b ≡ 0) ⊎ (b ≡ 0 → ⊥) → (fromLittleEndian bs ≡ 0) ⊎ (fromLittleEndian bs ≡ 0 → ⊥) → allZero bs ≡ eqb (fromLittleEndian bs) 0
-        → eqb (b + 256 * fromLittleEndian bs) 0 ≡ eqb b 0 && allZero bs
+        → eqb (b + byteValues * fromLittleEndian bs) 0 ≡ eqb b 0 && allZero bs
     go (inl p) (inl q) ih =
-        eq-eqb (b + 256 * fromLittleEndian bs) 0 (omega arith)
+        eq-eqb (b + byteValues * fromLittleEndian bs) 0 (omega arith)
         ∙ sym (ap₂ (λ (x y : Bool). x && y) (eq-eqb b 0 p) (ih ∙ eq-eqb (fromLittleEndian bs) 0 q))
     go (inl p) (inr q) ih =
-        ne-eqb (b + 256 * fromLittleEndian bs) 0 (λ e. q (omega arith))
+        ne-eqb (b + byteValues * fromLittleEndian bs) 0 (λ e. q (omega arith))
         ∙ sym (ap₂ (λ (x y : Bool). x && y) (eq-eqb b 0 p) (ih ∙ ne-eqb (fromLittleEndian bs) 0 q))
     go (inr p) q ih =
-        ne-eqb (b + 256 * fromLittleEndian bs) 0 (λ e. p (omega arith)) ∙ sym (ap (λ (x : Bool). x && allZero bs) (ne-eqb b 0 p))
+        ne-eqb (b + byteValues * fromLittleEndian bs) 0 (λ e. p (omega arith)) ∙ sym (ap (λ (x : Bool). x && allZero bs) (ne-eqb b 0 p))
 
 pub zeros-one : (r : List ℕ) (i : ℕ) → i < length r → eqb (byte i r) 0 ≡ allZero (slice i 1 r)
 unfolding slice

@@ -1,18 +1,18 @@
 -- Document 01, "Tables": the bytes of each record and of the tables. "Fixed-size records, no header, little-endian."
 use Rattle.ranks.specs.Prelude.{ℕ, zero, suc, _+_, _*_, _/_, _%_, Bool, _&&_, List, [], _∷_, _++_, map, flatten, length, eqb}
 use Rattle.ranks.specs.Table.{slice, byte, records, positionIn}
-use Rattle.records.specs.Layout.{capacity, slotCount, queueWidth, bufferCount, bufferWidth, taskCount, taskWidth}
+use Rattle.records.specs.Layout.{byteValues, capacity, slotCount, queueWidth, queuesSize, bufferCount, bufferWidth, bufferPosition, bufferLength, bufferData, poolSize, taskCount, taskWidth, taskPosition, taskData, tasksSize}
 use Rattle.records.specs.Records.{Queue, Buffer, Task, State}
 
 -- the number whose bytes these are, the lowest first
 unfoldable pub fromLittleEndian : List ℕ → ℕ
 fromLittleEndian [] = 0
-fromLittleEndian (b ∷ bs) = b + 256 * fromLittleEndian bs
+fromLittleEndian (b ∷ bs) = b + byteValues * fromLittleEndian bs
 
 -- the lowest `k` bytes of a number, the lowest first
 unfoldable pub toLittleEndian : (k : ℕ) → ℕ → List ℕ
 toLittleEndian zero n = []
-toLittleEndian (suc k) n = n % 256 ∷ toLittleEndian k (n / 256)
+toLittleEndian (suc k) n = n % byteValues ∷ toLittleEndian k (n / byteValues)
 
 -- ---- Records
 
@@ -33,10 +33,16 @@ decodeQueue r =
 unfoldable pub encodeQueue : Queue → List ℕ
 encodeQueue q =
     q .live ∷ q .attributes ∷ q .limit ∷ q .maxSize ∷ toLittleEndian 2 (q .generation)
-    ++ (q .pending ∷ q .waiters ∷ toLittleEndian 4 (q .name)) ++ q .reserved
+    ++ (q .pending ∷ q .waiters ∷ toLittleEndian 4 (q .name) ++ q .reserved)
 
 unfoldable pub decodeBuffer : List ℕ → Buffer
-decodeBuffer r = record { position = positionIn 0 r; messageLength = byte 2 r; reserved = slice 3 5 r; bytes = slice 8 capacity r }
+decodeBuffer r =
+    record {
+      position = positionIn bufferPosition r;
+      messageLength = byte bufferLength r;
+      reserved = slice 3 5 r;
+      bytes = slice bufferData capacity r;
+    }
 
 unfoldable pub encodeBuffer : Buffer → List ℕ
 encodeBuffer m = m .position .queue ∷ m .position .rank ∷ m .messageLength ∷ m .reserved ++ m .bytes
@@ -45,27 +51,40 @@ unfoldable pub decodeTask : List ℕ → Task
 decodeTask r =
     record {
       state = byte 0 r;
-      position = positionIn 1 r;
+      position = positionIn taskPosition r;
       priority = byte 3 r;
       status = byte 4 r;
       messageLength = byte 5 r;
       reserved = slice 6 2 r;
       ticksLeft = fromLittleEndian (slice 8 4 r);
       reservedAfter = slice 12 4 r;
-      receiveBuffer = slice 16 capacity r;
+      receiveBuffer = slice taskData capacity r;
     }
 
 unfoldable pub encodeTask : Task → List ℕ
 encodeTask w =
     w .state ∷ w .position .queue ∷ w .position .rank ∷ w .priority ∷ w .status ∷ w .messageLength
-    ∷ w .reserved ++ toLittleEndian 4 (w .ticksLeft) ++ w .reservedAfter ++ w .receiveBuffer
+    ∷ w .reserved ++ (toLittleEndian 4 (w .ticksLeft) ++ (w .reservedAfter ++ w .receiveBuffer))
 
 -- ---- Tables
+
+-- one record of a table, by its number
+abbrev pub decodeQueueAt : (slot : ℕ) (bytes : List ℕ) → Queue
+decodeQueueAt slot bytes = decodeQueue (slice (slot * queueWidth) queueWidth bytes)
+
+abbrev pub decodeBufferAt : (b : ℕ) (bytes : List ℕ) → Buffer
+decodeBufferAt b bytes = decodeBuffer (slice (b * bufferWidth) bufferWidth bytes)
+
+abbrev pub decodeTaskAt : (t : ℕ) (bytes : List ℕ) → Task
+decodeTaskAt t bytes = decodeTask (slice (t * taskWidth) taskWidth bytes)
 
 pub record Tables : Type 0 where
   pub queues : List ℕ
   pub pool : List ℕ
   pub tasks : List ℕ
+
+abbrev pub tables : (queues pool tasks : List ℕ) → Tables
+tables queues pool tasks = record { queues = queues; pool = pool; tasks = tasks }
 
 abbrev pub decodeQueues : List ℕ → List Queue
 decodeQueues bytes = map decodeQueue (records slotCount queueWidth bytes)
@@ -89,6 +108,4 @@ encode s =
 
 unfoldable pub rightLengths : Tables → Bool
 rightLengths t =
-    eqb (length (t .queues)) (slotCount * queueWidth)
-    && eqb (length (t .pool)) (bufferCount * bufferWidth)
-    && eqb (length (t .tasks)) (taskCount * taskWidth)
+    eqb (length (t .queues)) queuesSize && eqb (length (t .pool)) poolSize && eqb (length (t .tasks)) tasksSize

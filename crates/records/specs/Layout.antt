@@ -1,9 +1,34 @@
--- Document 01, "Tables": how many records each table has, how many bytes a record has, and what an id is.
+-- Document 01, "Tables": how many records each table has, how many bytes a record has, where its fields stand, and what an id is.
 use Rattle.ranks.specs.Prelude.{ℕ, _+_, _*_, _/_, _%_}
+
+-- how many values a byte has
+abbrev pub byteValues : ℕ
+byteValues = 256
 
 -- "8-127 data"; "16-135 the task's receive buffer"
 abbrev pub capacity : ℕ
 capacity = 120
+
+-- "0 owner queue (slot+1, 0 free); 1 rank; 2 length; 3-7 zero; 8-127 data"
+abbrev pub bufferPosition : ℕ
+bufferPosition = 0
+
+abbrev pub bufferLength : ℕ
+bufferLength = 2
+
+abbrev pub bufferData : ℕ
+bufferData = 8
+
+-- "1 queue (slot+1, 0 none); 2 rank"; "16-135 the task's receive buffer"
+abbrev pub taskPosition : ℕ
+taskPosition = 1
+
+abbrev pub taskData : ℕ
+taskData = 16
+
+-- "limit 1 to 16"
+abbrev pub largestLimit : ℕ
+largestLimit = 16
 
 -- "Queues: 16 records of 16 bytes." "Pool: 64 records of 128 bytes." "Tasks: 32 records of 136 bytes."
 abbrev pub slotCount : ℕ
@@ -12,24 +37,33 @@ slotCount = 16
 abbrev pub queueWidth : ℕ
 queueWidth = 16
 
+abbrev pub queuesSize : ℕ
+queuesSize = slotCount * queueWidth
+
 abbrev pub bufferCount : ℕ
 bufferCount = 64
 
 abbrev pub bufferWidth : ℕ
-bufferWidth = 8 + capacity
+bufferWidth = bufferData + capacity
+
+abbrev pub poolSize : ℕ
+poolSize = bufferCount * bufferWidth
 
 abbrev pub taskCount : ℕ
 taskCount = 32
 
 abbrev pub taskWidth : ℕ
-taskWidth = 16 + capacity
+taskWidth = taskData + capacity
+
+abbrev pub tasksSize : ℕ
+tasksSize = taskCount * taskWidth
 
 -- "An id is generation x 16 + slot."
 unfoldable pub idOf : (generation slot : ℕ) → ℕ
-idOf generation slot = generation * 16 + slot
+idOf generation slot = generation * slotCount + slot
 
 abbrev pub slotOf : (id : ℕ) → ℕ
-slotOf id = id % 16
+slotOf id = id % slotCount
 
 abbrev pub generationOf : (id : ℕ) → ℕ
-generationOf id = id / 16
+generationOf id = id / slotCount

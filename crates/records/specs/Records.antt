@@ -3,7 +3,7 @@
 use Rattle.ranks.specs.Prelude.{ℕ, _/_, _%_, Bool, List, getD, take, replicate, eqb, leb}
 use Rattle.ranks.specs.Lists.{mapWithIndex, within}
 use Rattle.ranks.specs.Position.{Position, noQueue}
-use Rattle.records.specs.Layout.{capacity, slotCount, bufferCount}
+use Rattle.records.specs.Layout.{capacity, largestLimit, slotCount, bufferCount}
 use Rattle.records.specs.Status.{SUCCESSFUL}
 use Rattle.records.specs.declared.queue.QueueRecord.{QueueRecord}
 
@@ -62,7 +62,7 @@ abbrev pub attributesAllowed : ℕ → Bool
 attributesAllowed n = leb n 3
 
 abbrev pub limitAllowed : ℕ → Bool
-limitAllowed n = within 1 16 n
+limitAllowed n = within 1 largestLimit n
 
 abbrev pub maxSizeAllowed : ℕ → Bool
 maxSizeAllowed n = within 1 capacity n

@@ -22,10 +22,10 @@ share slot slots buffer buffers task tasks =
     }
 
 -- "Share p (0 to 3) owns slots 4p to 4p+3, buffers 16p to 16p+15, tasks 8p to 8p+7."
-unfoldable pub split : List Share
+abbrev pub split : List Share
 split = share 0 4 0 16 0 8 ∷ share 4 4 16 16 8 8 ∷ share 8 4 32 16 16 8 ∷ share 12 4 48 16 24 8 ∷ []
 
-unfoldable pub shareCount : ℕ
+abbrev pub shareCount : ℕ
 shareCount = length split
 
 abbrev pub contains : Block → ℕ → Bool

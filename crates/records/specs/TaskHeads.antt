@@ -1,7 +1,7 @@
 -- The head of a task record: what stands before its receive buffer, but for the zero bytes 12 to 15.
 use Rattle.ranks.specs.Prelude.{ℕ}
 use Rattle.records.specs.Records.{Task, readyState, waitingState}
-use Rattle.records.specs.Status.{WAITING}
+use Rattle.records.specs.Status.{SUCCESSFUL, WAITING}
 use Rattle.records.specs.declared.task.TaskHead.{TaskHead}
 
 abbrev pub headOf : Task → TaskHead
@@ -41,6 +41,20 @@ readyHead status h =
       priority = h .priority;
       status = status;
       messageLength = h .messageLength;
+      reserved = h .reserved;
+      ticksLeft = 0;
+    }
+
+-- "status 0, length set"
+abbrev pub messageHead : (messageLength : ℕ) → TaskHead → TaskHead
+messageHead messageLength h =
+    record {
+      state = readyState;
+      queue = 0;
+      rank = 0;
+      priority = h .priority;
+      status = SUCCESSFUL;
+      messageLength = messageLength;
       reserved = h .reserved;
       ticksLeft = 0;
     }

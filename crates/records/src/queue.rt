@@ -1,13 +1,21 @@
 // Queue records: read into a value, changed there and written back.
 ghost use mathlib.Core.Path.{_≡_};
-ghost use Prim.Native.Nat.{_*_, _<_};
+ghost use Prim.Native.Nat.{_<_};
 ghost use lib.ListN.{length};
-ghost use Rattle.ranks.specs.Table.{slice};
-ghost use Rattle.records.specs.Bytes.{decodeQueue, encodeQueue, decodeQueues};
+ghost use Rattle.ranks.specs.Lists.{within};
+ghost use Rattle.records.specs.Layout.{slotCount, queueWidth, queuesSize};
+ghost use Rattle.records.specs.Records.{isLive, hasPriority, isOpen, attributesAllowed, limitAllowed, maxSizeAllowed, sizeAllowed};
+ghost use Rattle.records.specs.Bytes.{decodeQueue, encodeQueue, decodeQueues, decodeQueueAt};
 ghost use Rattle.records.specs.Changes.{changeAt, withPending, withWaiters, withGeneration, liveWith, freed};
+use crate::bytes::bytes_of_u16;
+use crate::bytes::bytes_of_u32;
 use crate::bytes::copy_into;
+use crate::bytes::four_bytes;
 use crate::bytes::read_u16;
 use crate::bytes::read_u32;
+use crate::layout::CAPACITY;
+use crate::layout::LARGEST_LIMIT;
+use crate::layout::QUEUE_WIDTH;
 
 // A queue record, field by field.
 pub struct QueueRecord {
@@ -23,6 +31,31 @@ pub struct QueueRecord {
 }
 
 impl QueueRecord {
+    pub fn is_live(self) -> bool
+        ensures { λ r. ⌜ r ≡ isLive self ⌝ }
+    {
+        self.live == 1
+    }
+
+    pub fn has_priority(self) -> bool
+        ensures { λ r. ⌜ r ≡ hasPriority self ⌝ }
+    {
+        self.attributes % 2 == 1
+    }
+
+    pub fn is_open(self) -> bool
+        ensures { λ r. ⌜ r ≡ isOpen self ⌝ }
+    {
+        self.attributes / 2 % 2 == 1
+    }
+
+    // A message of the queue may have this size.
+    pub fn size_allowed(self, size: usize) -> bool
+        ensures { λ r. ⌜ r ≡ sizeAllowed self size ⌝ }
+    {
+        is_within(1, self.maxSize as usize, size)
+    }
+
     pub fn with_pending(mut self, n: u8) -> Self
         ensures { λ r. ⌜ r ≡ withPending n self ⌝ }
     {
@@ -45,13 +78,13 @@ impl QueueRecord {
     }
 
     // A live queue with no message and no waiter, and the record's generation.
-    pub fn live_with(mut self, name: u32, limit: u8, size: u8, attributes: u8) -> Self
-        ensures { λ r. ⌜ r ≡ liveWith name limit size attributes self ⌝ }
+    pub fn live_with(mut self, name: u32, limit: u8, maxSize: u8, attributes: u8) -> Self
+        ensures { λ r. ⌜ r ≡ liveWith name limit maxSize attributes self ⌝ }
     {
         self.live = 1;
         self.attributes = attributes;
         self.limit = limit;
-        self.maxSize = size;
+        self.maxSize = maxSize;
         self.pending = 0;
         self.waiters = 0;
         self.name = name;
@@ -75,8 +108,33 @@ impl QueueRecord {
     }
 }
 
+fn is_within(low: usize, high: usize, n: usize) -> bool
+    ensures { λ r. ⌜ r ≡ within low high n ⌝ }
+{
+    (low <= n) & (n <= high)
+}
+
+// "attributes 0 to 3, limit 1 to 16, max size 1 to 120"
+pub fn attributes_allowed(n: u32) -> bool
+    ensures { λ r. ⌜ r ≡ attributesAllowed n ⌝ }
+{
+    n <= 3
+}
+
+pub fn limit_allowed(n: u32) -> bool
+    ensures { λ r. ⌜ r ≡ limitAllowed n ⌝ }
+{
+    is_within(1, LARGEST_LIMIT, n as usize)
+}
+
+pub fn max_size_allowed(n: u32) -> bool
+    ensures { λ r. ⌜ r ≡ maxSizeAllowed n ⌝ }
+{
+    is_within(1, CAPACITY, n as usize)
+}
+
 fn decode_queue(r: &[u8]) -> QueueRecord
-    requires { ⌜ length (now r) ≡ 16 ⌝ }
+    requires { ⌜ length (now r) ≡ queueWidth ⌝ }
     ensures { λ q. ⌜ q ≡ decodeQueue (now (r .entry)) ⌝ }
 {
     QueueRecord {
@@ -88,35 +146,37 @@ fn decode_queue(r: &[u8]) -> QueueRecord
         pending: r[6],
         waiters: r[7],
         name: read_u32(r, 8),
-        reserved: [r[12], r[13], r[14], r[15]],
+        reserved: four_bytes(r, 12),
     }
 }
 
 pub fn read_queue(queues: &[u8], slot: usize) -> QueueRecord
-    requires { ⌜ (slot < 16) × (length (now queues) ≡ 256) ⌝ }
-    ensures { λ q. ⌜ q ≡ decodeQueue (slice (slot * 16) 16 (now (queues .entry))) ⌝ }
+    requires { ⌜ (slot < slotCount) × (length (now queues) ≡ queuesSize) ⌝ }
+    ensures { λ q. ⌜ q ≡ decodeQueueAt slot (now (queues .entry)) ⌝ }
 {
-    let from = slot * 16;
-    decode_queue(&queues[from..from + 16])
+    let from = slot * QUEUE_WIDTH;
+    decode_queue(&queues[from..from + QUEUE_WIDTH])
 }
 
-fn encode_queue(q: QueueRecord) -> [u8; 16]
-    ensures { λ r. ⌜ (r ≡ encodeQueue q) × ((decodeQueue (encodeQueue q) ≡ q) × (length (encodeQueue q) ≡ 16)) ⌝ }
+fn encode_queue(q: QueueRecord) -> [u8; QUEUE_WIDTH]
+    ensures { λ r. ⌜ (r ≡ encodeQueue q) × ((decodeQueue (encodeQueue q) ≡ q) × (length (encodeQueue q) ≡ queueWidth)) ⌝ }
 {
+    let g = bytes_of_u16(q.generation);
+    let n = bytes_of_u32(q.name);
     let s = q.reserved;
     [
         q.live,
         q.attributes,
         q.limit,
         q.maxSize,
-        (q.generation % 256) as u8,
-        (q.generation / 256 % 256) as u8,
+        g[0],
+        g[1],
         q.pending,
         q.waiters,
-        (q.name % 256) as u8,
-        (q.name / 256 % 256) as u8,
-        (q.name / 256 / 256 % 256) as u8,
-        (q.name / 256 / 256 / 256 % 256) as u8,
+        n[0],
+        n[1],
+        n[2],
+        n[3],
         s[0],
         s[1],
         s[2],
@@ -125,9 +185,9 @@ fn encode_queue(q: QueueRecord) -> [u8; 16]
 }
 
 pub fn write_queue(queues: &mut [u8], slot: usize, q: QueueRecord)
-    requires { ⌜ (slot < 16) × (length (now queues) ≡ 256) ⌝ }
+    requires { ⌜ (slot < slotCount) × (length (now queues) ≡ queuesSize) ⌝ }
     ensures { λ _. ⌜ decodeQueues (now (queues .exit)) ≡ changeAt slot (λ _. q) (decodeQueues (now (queues .entry))) ⌝ }
 {
     let b = encode_queue(q);
-    copy_into(queues, slot * 16, &b);
+    copy_into(queues, slot * QUEUE_WIDTH, &b);
 }

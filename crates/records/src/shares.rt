@@ -2,18 +2,19 @@
 ghost use mathlib.Core.Path.{_≡_};
 ghost use Prim.Native.Nat.{_<_};
 ghost use lib.Dec.{eqb};
-ghost use Rattle.records.specs.Split.{shareOfSlot, shareOfBuffer, shareOfTask, firstBuffer, shareLimit};
+ghost use Rattle.records.specs.Layout.{slotCount, bufferCount, taskCount};
+ghost use Rattle.records.specs.Split.{shareOfSlot, shareOfBuffer, shareOfTask, firstBuffer, shareLimit, shareCount};
 
 // "Share p (0 to 3) owns slots 4p to 4p+3, buffers 16p to 16p+15, tasks 8p to 8p+7."
 pub fn share_of_slot(slot: usize) -> usize
-    requires { ⌜ slot < 16 ⌝ }
+    requires { ⌜ slot < slotCount ⌝ }
     ensures { λ r. ⌜ r ≡ shareOfSlot slot ⌝ }
 {
     slot / 4
 }
 
 pub fn share_of_task(task: usize) -> usize
-    requires { ⌜ task < 32 ⌝ }
+    requires { ⌜ task < taskCount ⌝ }
     ensures { λ r. ⌜ r ≡ shareOfTask task ⌝ }
 {
     task / 8
@@ -21,7 +22,7 @@ pub fn share_of_task(task: usize) -> usize
 
 // The first buffer of the share.
 pub fn first_buffer(share: usize) -> usize
-    requires { ⌜ share < 4 ⌝ }
+    requires { ⌜ share < shareCount ⌝ }
     ensures { λ r. ⌜ r ≡ firstBuffer share ⌝ }
 {
     share * 16
@@ -29,7 +30,7 @@ pub fn first_buffer(share: usize) -> usize
 
 // How many buffers the share has, which bounds its limits.
 pub fn share_limit(share: usize) -> usize
-    requires { ⌜ share < 4 ⌝ }
+    requires { ⌜ share < shareCount ⌝ }
     ensures { λ r. ⌜ r ≡ shareLimit share ⌝ }
 {
     16
@@ -37,7 +38,7 @@ pub fn share_limit(share: usize) -> usize
 
 // The share owns the buffer.
 pub fn owns_buffer(share: usize, b: usize) -> bool
-    requires { ⌜ b < 64 ⌝ }
+    requires { ⌜ b < bufferCount ⌝ }
     ensures { λ r. ⌜ r ≡ eqb share (shareOfBuffer b) ⌝ }
 {
     share == b / 16

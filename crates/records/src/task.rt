@@ -1,16 +1,24 @@
 // Task records.
 ghost use mathlib.Core.Path.{_≡_};
-ghost use Prim.Native.Nat.{_*_, _<_, _≤_};
+ghost use Prim.Native.Nat.{_<_, _≤_};
 ghost use lib.ListN.{length};
+ghost use Rattle.records.specs.Layout.{capacity, taskCount, taskWidth, tasksSize};
+ghost use Rattle.records.specs.Bytes.{decodeTask, decodeTasks, decodeTaskAt};
 ghost use Rattle.records.specs.Records.{freshTask};
-ghost use Rattle.records.specs.Bytes.{decodeTask, decodeTasks};
-ghost use Rattle.ranks.specs.Table.{slice};
 ghost use Rattle.records.specs.Changes.{changeAt, withMessage};
-ghost use Rattle.records.specs.TaskHeads.{headOf, withHead, readyHead, waitingHead, tickedHead};
+ghost use Rattle.records.specs.TaskHeads.{headOf, withHead, readyHead, messageHead, waitingHead, tickedHead};
+use crate::bytes::bytes_of_u32;
 use crate::bytes::copy_into;
 use crate::bytes::read_u32;
+use crate::bytes::two_bytes;
+use crate::layout::TASK_DATA;
+use crate::layout::TASK_WIDTH;
 use crate::status::SUCCESSFUL;
 use crate::status::WAITING;
+
+pub const READY_STATE: u8 = 0;
+
+pub const WAITING_STATE: u8 = 1;
 
 // What stands before a task's receive buffer, but for its zero bytes 12 to 15.
 pub struct TaskHead {
@@ -29,7 +37,7 @@ impl TaskHead {
     pub fn ready_with(mut self, status: u8) -> Self
         ensures { λ r. ⌜ r ≡ readyHead status self ⌝ }
     {
-        self.state = 0;
+        self.state = READY_STATE;
         self.queue = 0;
         self.rank = 0;
         self.status = status;
@@ -41,12 +49,25 @@ impl TaskHead {
     pub fn waiting_at(mut self, queue: u8, rank: u8, ticks: u32) -> Self
         ensures { λ r. ⌜ r ≡ waitingHead queue rank ticks self ⌝ }
     {
-        self.state = 1;
+        self.state = WAITING_STATE;
         self.queue = queue;
         self.rank = rank;
         self.status = WAITING;
         self.messageLength = 0;
         self.ticksLeft = ticks;
+        self
+    }
+
+    // The task is ready and has a message of this length: "status 0, length set".
+    pub fn with_message_length(mut self, n: u8) -> Self
+        ensures { λ r. ⌜ r ≡ messageHead n self ⌝ }
+    {
+        self.state = READY_STATE;
+        self.queue = 0;
+        self.rank = 0;
+        self.status = SUCCESSFUL;
+        self.messageLength = n;
+        self.ticksLeft = 0;
         self
     }
 
@@ -59,7 +80,7 @@ impl TaskHead {
 }
 
 fn decode_head(r: &[u8]) -> TaskHead
-    requires { ⌜ length (now r) ≡ 136 ⌝ }
+    requires { ⌜ length (now r) ≡ taskWidth ⌝ }
     ensures { λ h. ⌜ h ≡ headOf (decodeTask (now (r .entry))) ⌝ }
 {
     TaskHead {
@@ -69,23 +90,24 @@ fn decode_head(r: &[u8]) -> TaskHead
         priority: r[3],
         status: r[4],
         messageLength: r[5],
-        reserved: [r[6], r[7]],
+        reserved: two_bytes(r, 6),
         ticksLeft: read_u32(r, 8),
     }
 }
 
 pub fn read_head(tasks: &[u8], t: usize) -> TaskHead
-    requires { ⌜ (t < 32) × (length (now tasks) ≡ 4352) ⌝ }
-    ensures { λ h. ⌜ h ≡ headOf (decodeTask (slice (t * 136) 136 (now (tasks .entry)))) ⌝ }
+    requires { ⌜ (t < taskCount) × (length (now tasks) ≡ tasksSize) ⌝ }
+    ensures { λ h. ⌜ h ≡ headOf (decodeTaskAt t (now (tasks .entry))) ⌝ }
 {
-    let from = t * 136;
-    decode_head(&tasks[from..from + 136])
+    let from = t * TASK_WIDTH;
+    decode_head(&tasks[from..from + TASK_WIDTH])
 }
 
 fn encode_head(r: &mut [u8], h: TaskHead)
-    requires { ⌜ length (now r) ≡ 136 ⌝ }
+    requires { ⌜ length (now r) ≡ taskWidth ⌝ }
     ensures { λ _. ⌜ decodeTask (now (r .exit)) ≡ withHead h (decodeTask (now (r .entry))) ⌝ }
 {
+    let n = bytes_of_u32(h.ticksLeft);
     let z = h.reserved;
     let b = [
         h.state,
@@ -96,60 +118,47 @@ fn encode_head(r: &mut [u8], h: TaskHead)
         h.messageLength,
         z[0],
         z[1],
-        (h.ticksLeft % 256) as u8,
-        (h.ticksLeft / 256 % 256) as u8,
-        (h.ticksLeft / 256 / 256 % 256) as u8,
-        (h.ticksLeft / 256 / 256 / 256 % 256) as u8,
+        n[0],
+        n[1],
+        n[2],
+        n[3],
     ];
     copy_into(r, 0, &b);
 }
 
 pub fn write_head(tasks: &mut [u8], t: usize, h: TaskHead)
-    requires { ⌜ (t < 32) × (length (now tasks) ≡ 4352) ⌝ }
+    requires { ⌜ (t < taskCount) × (length (now tasks) ≡ tasksSize) ⌝ }
     ensures { λ _. ⌜ decodeTasks (now (tasks .exit)) ≡ changeAt t (withHead h) (decodeTasks (now (tasks .entry))) ⌝ }
 {
-    let from = t * 136;
-    encode_head(&mut tasks[from..from + 136], h);
+    let from = t * TASK_WIDTH;
+    encode_head(&mut tasks[from..from + TASK_WIDTH], h);
 }
 
 // The message goes into a task's record, which is then ready and in no queue.
 fn deliver_to(r: &mut [u8], message: &[u8])
-    requires { ⌜ (length (now r) ≡ 136) × (length (now message) ≤ 120) ⌝ }
+    requires { ⌜ (length (now r) ≡ taskWidth) × (length (now message) ≤ capacity) ⌝ }
     ensures { λ _. ⌜ decodeTask (now (r .exit)) ≡ withMessage (now (message .entry)) (decodeTask (now (r .entry))) ⌝ }
 {
-    let head = [
-        0,
-        0,
-        0,
-        r[3],
-        SUCCESSFUL,
-        message.len() as u8,
-        r[6],
-        r[7],
-        0,
-        0,
-        0,
-        0,
-    ];
-    copy_into(r, 0, &head);
-    copy_into(r, 16, message);
+    let h = decode_head(r).with_message_length(message.len() as u8);
+    copy_into(r, TASK_DATA, message);
+    encode_head(r, h);
 }
 
 // The message goes to task t.
 pub fn deliver(tasks: &mut [u8], t: usize, message: &[u8])
-    requires { ⌜ (length (now tasks) ≡ 4352) × ((t < 32) × (length (now message) ≤ 120)) ⌝ }
+    requires { ⌜ (length (now tasks) ≡ tasksSize) × ((t < taskCount) × (length (now message) ≤ capacity)) ⌝ }
     ensures { λ _. ⌜ decodeTasks (now (tasks .exit)) ≡ changeAt t (withMessage (now (message .entry))) (decodeTasks (now (tasks .entry))) ⌝ }
 {
-    let from = t * 136;
-    deliver_to(&mut tasks[from..from + 136], message);
+    let from = t * TASK_WIDTH;
+    deliver_to(&mut tasks[from..from + TASK_WIDTH], message);
 }
 
 // Task t is ready with this priority, and the rest of its record is zero.
 pub fn write_fresh_task(tasks: &mut [u8], t: usize, priority: u8)
-    requires { ⌜ (length (now tasks) ≡ 4352) × (t < 32) ⌝ }
+    requires { ⌜ (length (now tasks) ≡ tasksSize) × (t < taskCount) ⌝ }
     ensures { λ _. ⌜ decodeTasks (now (tasks .exit)) ≡ changeAt t (λ _. freshTask priority) (decodeTasks (now (tasks .entry))) ⌝ }
 {
-    let mut r = [0u8; 136];
+    let mut r = [0u8; TASK_WIDTH];
     r[3] = priority;
-    copy_into(tasks, t * 136, &r);
+    copy_into(tasks, t * TASK_WIDTH, &r);
 }

@@ -1,16 +1,18 @@
 -- Bytes copied whole, changes written one by one, and the answers of a log in a lent buffer. Assumes nothing.
 use native.Mathlib.Omega.{arith}
-use Prim.Native.Nat.{ℕ, suc, _+_, _-_, _*_, _/_, _≤_, _<_}
-use mathlib.Core.Bool.{Bool, _&&_}
-use mathlib.Core.Path.{_≡_, refl, ap, ap₂, _∙_}
+use Prim.Native.Nat.{ℕ, suc, _+_, _-_, _*_, _≤_, _<_}
+use mathlib.Core.Bool.{_&&_}
+use mathlib.Core.Path.{_≡_, refl, ap, _∙_}
 use mathlib.Core.List.{List, [], _∷_, _++_, append-nil}
 use lib.ListN.{length, replicate, set, take, drop, length-replicate, length-drop, drop-of-length-le}
 use lib.Seq.{drop-cons, length-take-le}
+use Rattle.records.specs.Layout.{byteValues}
 use Rattle.ranks.specs.Table.{byte, spliced}
 use Rattle.records.specs.Bytes.{Tables}
-use Rattle.runs.specs.Replay.{Replayed, countOf, intoLent, replayedFront, replayedInto}
-use Rattle.logio.proofs.Room.{replayed-all, front-answers}
-use Rattle.replay_cases.specs.StoredCase.{changed, same, tablesIn, sameTables, replaysTo}
+use Rattle.calllog.specs.CallLog.{answerWidth, recordCount}
+use Rattle.runs.specs.Replay.{Replayed, replayed}
+use Rattle.logio.proofs.Room.{records-room}
+use Rattle.replay_cases.specs.StoredCase.{changed, same, tablesIn, sameTables, replaysTo, restRecords, restRoom, answersRoom}
 
 -- bytes copied over all of a buffer
 pub copied : (n : ℕ) (l : List ℕ) → length l ≡ n → spliced (replicate n 0) 0 l ≡ l
@@ -25,7 +27,7 @@ part-length i n l h = length-take-le n (drop i l) (omega (arith, length-drop i l
 -- one change more is written
 pub one-more : (image changes : List ℕ) (i : ℕ) → i + 2 < length changes
     → changed image (drop i changes)
-    ≡ changed (set image (byte i changes + 256 * byte (i + 1) changes) (byte (i + 2) changes)) (drop (i + 3) changes)
+    ≡ changed (set image (byte i changes + byteValues * byte (i + 1) changes) (byte (i + 2) changes)) (drop (i + 3) changes)
 unfolding changed
 one-more image changes i h =
     ap (changed image)
@@ -51,18 +53,13 @@ none-left image (a ∷ []) h = refl
 none-left image (a ∷ b ∷ []) h = refl
 none-left image (a ∷ b ∷ c ∷ l) h = absurd (omega arith)
 
--- the answers of a part of 8,192 bytes have room
-pub few-records : (i j : ℕ) (l : List ℕ) → i ≤ j → j ≤ length l → length l ≤ 8192 → countOf (length (take (j - i) (drop i l))) * 16 ≤ 1024
-unfolding countOf
-few-records i j l h k m = omega (arith, part-length i (j - i) l (omega arith))
+-- the answers to a part of what follows a case's head have room
+pub few-records : (i j : ℕ) (l : List ℕ) → i ≤ j → j ≤ length l → length l ≤ restRoom
+    → recordCount (length (take (j - i) (drop i l))) * answerWidth ≤ answersRoom
+few-records i j l h k m = records-room restRecords (omega (arith, part-length i (j - i) l (omega arith))) (omega arith)
 
--- a log replayed into a buffer of 1,024 bytes
-pub replays-so : (t : Tables) (log stored image : List ℕ) {done : Bool} {answers : List ℕ} {after : Tables}
-    → intoLent done (record { answers = answers; after = after }) ≡ replayedInto t log (replicate 1024 0) → countOf (length log) * 16 ≤ 1024
-    → (same (take (countOf (length log) * 16) answers) stored && sameTables after (tablesIn image)) ≡ replaysTo t log stored image
-unfolding replaysTo replayedFront
-replays-so t log stored image e h =
-    let r = replayed-all t log (replicate 1024 0) e (omega (arith, length-replicate {A = ℕ} 1024 0)) in
-    ap₂ (λ (l : List ℕ) (u : Tables). same l stored && sameTables u (tablesIn image))
-    (front-answers t log (replicate 1024 0) (length log) (countOf (length log) * 16) refl refl r)
-    (ap (λ (x : Replayed). x .after) r)
+-- a log replayed into a buffer, of which the front has its answers
+pub replays-so : (t : Tables) (log stored image : List ℕ) {answers : List ℕ} {after : Tables} → (record { answers = answers; after = after }) ≡ replayed t log
+    → (same answers stored && sameTables after (tablesIn image)) ≡ replaysTo t log stored image
+unfolding replaysTo
+replays-so t log stored image e = ap (λ (x : Replayed). same (x .answers) stored && sameTables (x .after) (tablesIn image)) e

@@ -1,7 +1,9 @@
 -- A stored case: whether a log, replayed from the tables of an image, is answered as stored and leaves the tables as stored.
+use Rattle.records.specs.Layout.{byteValues, queuesSize, poolSize, tasksSize}
 use Rattle.ranks.specs.Prelude.{ℕ, _+_, _*_, Bool, _&&_, List, [], _∷_, length, set, eqb}
 use Rattle.ranks.specs.Table.{slice}
 use Rattle.records.specs.Bytes.{Tables}
+use Rattle.calllog.specs.CallLog.{answerWidth}
 use Rattle.runs.specs.Replay.{replayed}
 use Rattle.logio.specs.Agreeing.{agreement}
 
@@ -10,15 +12,25 @@ unfoldable pub changed : (image changes : List ℕ) → List ℕ
 changed image [] = image
 changed image (low ∷ []) = image
 changed image (low ∷ high ∷ []) = image
-changed image (low ∷ high ∷ b ∷ changes) = changed (set image (low + 256 * high) b) changes
+changed image (low ∷ high ∷ b ∷ changes) = changed (set image (low + byteValues * high) b) changes
 
 -- byte for byte, and of one length
 unfoldable pub same : List ℕ → List ℕ → Bool
 same a b = eqb (agreement a b) (length a) && eqb (agreement a b) (length b)
 
--- "An image is the three tables in this order, 12,800 bytes."
+-- "An image is the three tables in this order, 12,800 bytes.": where each table stands in it, and its size
+abbrev pub poolPlace : ℕ
+poolPlace = queuesSize
+
+abbrev pub tasksPlace : ℕ
+tasksPlace = poolPlace + poolSize
+
+abbrev pub imageSize : ℕ
+imageSize = tasksPlace + tasksSize
+
 unfoldable pub tablesIn : (image : List ℕ) → Tables
-tablesIn image = record { queues = slice 0 256 image; pool = slice 256 8192 image; tasks = slice 8448 4352 image }
+tablesIn image =
+    record { queues = slice 0 queuesSize image; pool = slice poolPlace poolSize image; tasks = slice tasksPlace tasksSize image }
 
 unfoldable pub sameTables : Tables → Tables → Bool
 sameTables t u = same (t .queues) (u .queues) && same (t .pool) (u .pool) && same (t .tasks) (u .tasks)
@@ -31,3 +43,17 @@ replaysTo t log answers image = let r = replayed t log in same (r .answers) answ
 unfoldable pub caseHolds : (image before log answers after : List ℕ) → Bool
 caseHolds image before log answers after =
     let start = changed image before in replaysTo (tablesIn start) log answers (changed start after)
+
+-- ---- For the code
+
+-- the room that the program has for what follows the head of a case
+abbrev pub restRoom : ℕ
+restRoom = 8192
+
+-- the records of a log in that room are no more than these
+abbrev pub restRecords : ℕ
+restRecords = 64
+
+-- the room for the answers to them
+abbrev pub answersRoom : ℕ
+answersRoom = restRecords * answerWidth

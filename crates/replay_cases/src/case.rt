@@ -2,23 +2,40 @@
 ghost use mathlib.Core.Path.{_≡_};
 ghost use Prim.Native.Nat.{_+_, _*_, _≤_, _<_};
 ghost use lib.ListN.{length, take, set};
+ghost use Rattle.records.specs.Layout.{byteValues};
 ghost use Rattle.ranks.specs.Table.{byte};
-ghost use Rattle.manager.specs.Outcomes.{tables};
-ghost use Rattle.runs.specs.Replay.{countOf};
-ghost use Rattle.replay_cases.specs.StoredCase.{changed, same, tablesIn, sameTables, replaysTo, caseHolds};
+ghost use Rattle.records.specs.Bytes.{tables};
+ghost use Rattle.calllog.specs.CallLog.{answerWidth, recordCount};
+ghost use Rattle.replay_cases.specs.StoredCase.{imageSize, answersRoom, changed, same, tablesIn, sameTables, replaysTo, caseHolds};
+use crate::image::IMAGE_SIZE;
+use crate::image::POOL_PLACE;
+use crate::image::TASKS_PLACE;
+use calllog::layout::ANSWER_WIDTH;
 use logio::agreeing::agreeing;
 use records::bytes::copy_into;
 use records::bytes::wide;
-use runs::replay::record_count;
-use runs::replay::replay;
+use records::layout::BYTE_VALUES;
+use records::layout::POOL_SIZE;
+use records::layout::QUEUES_SIZE;
+use records::layout::TASKS_SIZE;
+use runs::replay::replay_all;
+
+// The room for what follows the head of a case.
+pub const REST_ROOM: usize = 8192;
+
+// The records of a log in that room are no more than these.
+const REST_RECORDS: usize = 64;
+
+// The room for the answers to them.
+const ANSWERS_ROOM: usize = REST_RECORDS * ANSWER_WIDTH;
 
 // Writes the change in three bytes from place i on to an image, if the image has the place.
 fn write_change(image: &mut [u8], changes: &[u8], i: usize)
     requires { ⌜ i + 2 < length (now changes) ⌝ }
     ensures { λ _. ⌜ now (image .exit) ≡ set (now (image .entry))
-        (byte i (now (changes .entry)) + 256 * byte (i + 1) (now (changes .entry))) (byte (i + 2) (now (changes .entry))) ⌝ }
+        (byte i (now (changes .entry)) + byteValues * byte (i + 1) (now (changes .entry))) (byte (i + 2) (now (changes .entry))) ⌝ }
 {
-    let place = wide(changes[i]) + 256 * wide(changes[i + 1]);
+    let place = wide(changes[i]) + BYTE_VALUES * wide(changes[i + 1]);
     if place < image.len() {
         image[place] = changes[i + 2];
     }
@@ -52,41 +69,41 @@ fn front_is(a: &[u8], n: usize, b: &[u8]) -> bool
 }
 
 // The tables of an image.
-fn queues_in(image: &[u8]) -> [u8; 256]
-    requires { ⌜ length (now image) ≡ 12800 ⌝ }
+fn queues_in(image: &[u8]) -> [u8; QUEUES_SIZE]
+    requires { ⌜ length (now image) ≡ imageSize ⌝ }
     ensures { λ r. ⌜ r ≡ tablesIn (now (image .entry)) .queues ⌝ }
 {
-    let mut queues = [0u8; 256];
-    copy_into(&mut queues, 0, &image[0..256]);
+    let mut queues = [0u8; QUEUES_SIZE];
+    copy_into(&mut queues, 0, &image[0..POOL_PLACE]);
     queues
 }
 
-fn pool_in(image: &[u8]) -> [u8; 8192]
-    requires { ⌜ length (now image) ≡ 12800 ⌝ }
+fn pool_in(image: &[u8]) -> [u8; POOL_SIZE]
+    requires { ⌜ length (now image) ≡ imageSize ⌝ }
     ensures { λ r. ⌜ r ≡ tablesIn (now (image .entry)) .pool ⌝ }
 {
-    let mut pool = [0u8; 8192];
-    copy_into(&mut pool, 0, &image[256..8448]);
+    let mut pool = [0u8; POOL_SIZE];
+    copy_into(&mut pool, 0, &image[POOL_PLACE..TASKS_PLACE]);
     pool
 }
 
-fn tasks_in(image: &[u8]) -> [u8; 4352]
-    requires { ⌜ length (now image) ≡ 12800 ⌝ }
+fn tasks_in(image: &[u8]) -> [u8; TASKS_SIZE]
+    requires { ⌜ length (now image) ≡ imageSize ⌝ }
     ensures { λ r. ⌜ r ≡ tablesIn (now (image .entry)) .tasks ⌝ }
 {
-    let mut tasks = [0u8; 4352];
-    copy_into(&mut tasks, 0, &image[8448..12800]);
+    let mut tasks = [0u8; TASKS_SIZE];
+    copy_into(&mut tasks, 0, &image[TASKS_PLACE..IMAGE_SIZE]);
     tasks
 }
 
 // Whether the tables are those of an image.
 fn are_tables_in(queues: &[u8], pool: &[u8], tasks: &[u8], image: &[u8]) -> bool
-    requires { ⌜ length (now image) ≡ 12800 ⌝ }
+    requires { ⌜ length (now image) ≡ imageSize ⌝ }
     ensures { λ r. ⌜ r ≡ sameTables (tables (now (queues .entry)) (now (pool .entry)) (now (tasks .entry))) (tablesIn (now (image .entry))) ⌝ }
 {
-    is_same(queues, &image[0..256])
-        & is_same(pool, &image[256..8448])
-        & is_same(tasks, &image[8448..12800])
+    is_same(queues, &image[0..POOL_PLACE])
+        & is_same(pool, &image[POOL_PLACE..TASKS_PLACE])
+        & is_same(tasks, &image[TASKS_PLACE..IMAGE_SIZE])
 }
 
 // Whether the log, replayed over the tables, is answered as stored and leaves the tables of the image.
@@ -98,19 +115,18 @@ fn replays_to(
     stored: &[u8],
     image: &[u8],
 ) -> bool
-    requires { ⌜ (countOf (length (now log)) * 16 ≤ 1024) × (length (now image) ≡ 12800) ⌝ }
+    requires { ⌜ (recordCount (length (now log)) * answerWidth ≤ answersRoom) × (length (now image) ≡ imageSize) ⌝ }
     ensures { λ r. ⌜ r ≡ replaysTo (tables (now (queues .entry)) (now (pool .entry)) (now (tasks .entry)))
         (now (log .entry)) (now (stored .entry)) (now (image .entry)) ⌝ }
 {
-    let mut answers = [0u8; 1024];
-    let end = record_count(log.len()) * 16;
-    replay(queues, pool, tasks, log, &mut answers);
+    let mut answers = [0u8; ANSWERS_ROOM];
+    let end = replay_all(queues, pool, tasks, log, &mut answers);
     front_is(&answers, end, stored) & are_tables_in(queues, pool, tasks, image)
 }
 
 // Whether the log does so from the tables of an image.
 fn replays_from(start: &[u8], log: &[u8], stored: &[u8], image: &[u8]) -> bool
-    requires { ⌜ (length (now start) ≡ 12800) × ((countOf (length (now log)) * 16 ≤ 1024) × (length (now image) ≡ 12800)) ⌝ }
+    requires { ⌜ (length (now start) ≡ imageSize) × ((recordCount (length (now log)) * answerWidth ≤ answersRoom) × (length (now image) ≡ imageSize)) ⌝ }
     ensures { λ r. ⌜ r ≡ replaysTo (tablesIn (now (start .entry))) (now (log .entry)) (now (stored .entry)) (now (image .entry)) ⌝ }
 {
     let mut queues = queues_in(start);
@@ -120,11 +136,11 @@ fn replays_from(start: &[u8], log: &[u8], stored: &[u8], image: &[u8]) -> bool
 }
 
 // An image with changes written to it.
-fn with_changes(image: &[u8], changes: &[u8]) -> [u8; 12800]
-    requires { ⌜ length (now image) ≡ 12800 ⌝ }
+fn with_changes(image: &[u8], changes: &[u8]) -> [u8; IMAGE_SIZE]
+    requires { ⌜ length (now image) ≡ imageSize ⌝ }
     ensures { λ r. ⌜ r ≡ changed (now (image .entry)) (now (changes .entry)) ⌝ }
 {
-    let mut new = [0u8; 12800];
+    let mut new = [0u8; IMAGE_SIZE];
     copy_into(&mut new, 0, image);
     change(&mut new, changes);
     new
@@ -132,7 +148,7 @@ fn with_changes(image: &[u8], changes: &[u8]) -> [u8; 12800]
 
 // Whether a case holds: from the image with the changes before it, the log is answered as stored and makes the changes after it.
 pub fn case_holds(image: &[u8], before: &[u8], log: &[u8], stored: &[u8], after: &[u8]) -> bool
-    requires { ⌜ (length (now image) ≡ 12800) × (countOf (length (now log)) * 16 ≤ 1024) ⌝ }
+    requires { ⌜ (length (now image) ≡ imageSize) × (recordCount (length (now log)) * answerWidth ≤ answersRoom) ⌝ }
     ensures { λ r. ⌜ r ≡ caseHolds (now (image .entry)) (now (before .entry)) (now (log .entry)) (now (stored .entry)) (now (after .entry)) ⌝ }
 {
     let start = with_changes(image, before);

@@ -17,13 +17,21 @@
 // The answers and tables come from an independent program, written from document 01 and sharing nothing with this code; the answers of
 // worked_example are the 16 bytes that document 01 prints.
 mod case; // case.rt: a case, run on the code
+mod image; // image.rt: where each table stands in an image
 
 ghost use mathlib.Core.Path.{_≡_};
 ghost use Prim.Native.Nat.{_+_, _<_, _≤_};
 ghost use lib.ListN.{length};
+ghost use Rattle.replay_cases.specs.StoredCase.{imageSize, restRoom};
+use crate::case::REST_ROOM;
 use crate::case::case_holds;
+use crate::image::IMAGE_SIZE;
+use crate::image::POOL_PLACE;
+use crate::image::TASKS_PLACE;
+use calllog::layout::ANSWER_WIDTH;
+use calllog::layout::RECORD_WIDTH;
 use libc::STDOUT_FILENO;
-use logio::agreeing::agreeing;
+use logio::agreeing::fronts_agreeing;
 use logio::block::ANSWERS;
 use logio::block::BLOCK;
 use logio::block::replay_block;
@@ -32,6 +40,9 @@ use logio::reading::Input;
 use logio::reading::fill;
 use records::bytes::copy_into;
 use records::bytes::read_u16;
+use records::layout::POOL_SIZE;
+use records::layout::QUEUES_SIZE;
+use records::layout::TASKS_SIZE;
 use std::num::wrapping_add_u64;
 
 // ---- Text on standard output
@@ -129,10 +140,15 @@ fn next_block(
     let b = replay_block(log_from, queues, pool, tasks, &mut log, &mut answers);
     let end = b.end;
     let s = fill(answers_from, &mut stored);
-    let m = s.n;
-    let same = agreeing(&answers[..end], &stored[..m]);
-    let equal = (same == end) & (same == m) & !b.failed & !s.failed;
-    with_block(p, end / 16, equal, same / 16, b.n == BLOCK)
+    let same = fronts_agreeing(&answers, end, &stored, s.n);
+    let equal = (same == end) & (same == s.n) & !b.failed & !s.failed;
+    with_block(
+        p,
+        end / ANSWER_WIDTH,
+        equal,
+        same / ANSWER_WIDTH,
+        b.n == BLOCK,
+    )
 }
 
 // The whole log. The loop counts its turns down, since nothing says that a log ends.
@@ -165,20 +181,19 @@ struct Compared {
 // "An image is the three tables in this order, 12,800 bytes." Room for one byte more shows a stored image that is too long.
 fn compare_image(
     from: Input,
-    queues: &[u8; 256],
-    pool: &[u8; 8192],
-    tasks: &[u8; 4352],
+    queues: &[u8; QUEUES_SIZE],
+    pool: &[u8; POOL_SIZE],
+    tasks: &[u8; TASKS_SIZE],
 ) -> Compared {
-    let mut image = [0u8; 12800];
+    let mut image = [0u8; IMAGE_SIZE];
     copy_into(&mut image, 0, queues);
-    copy_into(&mut image, 256, pool);
-    copy_into(&mut image, 8448, tasks);
-    let mut stored = [0u8; 12801];
+    copy_into(&mut image, POOL_PLACE, pool);
+    copy_into(&mut image, TASKS_PLACE, tasks);
+    let mut stored = [0u8; IMAGE_SIZE + 1];
     let f = fill(from, &mut stored);
-    let n = f.n;
-    let differs_at = agreeing(&image, &stored[..n]);
+    let differs_at = fronts_agreeing(&image, IMAGE_SIZE, &stored, f.n);
     Compared {
-        equal: (differs_at == 12800) & (n == 12800),
+        equal: (differs_at == IMAGE_SIZE) & (f.n == IMAGE_SIZE),
         differs_at,
     }
 }
@@ -275,7 +290,7 @@ fn parts_of(head: &[u8; 38]) -> Parts
     let log = length_at(head, 32);
     let size = length_at(head, 34);
     let answers = log + size;
-    let after = answers + size / 136 * 16;
+    let after = answers + size / RECORD_WIDTH * ANSWER_WIDTH;
     let end = after + length_at(head, 36);
     Parts {
         log,
@@ -295,7 +310,7 @@ fn length_at(head: &[u8; 38], at: usize) -> usize
 
 // Whether the case of which this follows the head holds.
 fn rest_holds(base: &[u8], rest: &[u8], p: Parts) -> bool
-    requires { ⌜ (length (now base) ≡ 12800) × ((length (now rest) ≤ 8192) × ((p .log ≤ p .answers) × ((p .answers ≤ p .after) × (p .after ≤ length (now rest))))) ⌝ }
+    requires { ⌜ (length (now base) ≡ imageSize) × ((length (now rest) ≤ restRoom) × ((p .log ≤ p .answers) × ((p .answers ≤ p .after) × (p .after ≤ length (now rest))))) ⌝ }
 {
     let log = p.log;
     let answers = p.answers;
@@ -325,11 +340,11 @@ struct Ran {
 
 // Reads what follows the head of a case, and runs it.
 fn run_rest(from: Input, base: &[u8], p: Parts) -> Ran
-    requires { ⌜ (length (now base) ≡ 12800) × ((p .log ≤ p .answers) × ((p .answers ≤ p .after) × (p .after ≤ p .end))) ⌝ }
+    requires { ⌜ (length (now base) ≡ imageSize) × ((p .log ≤ p .answers) × ((p .answers ≤ p .after) × (p .after ≤ p .end))) ⌝ }
 {
-    let mut rest = [0u8; 8192];
+    let mut rest = [0u8; REST_ROOM];
     let end = p.end;
-    if end > 8192 {
+    if end > REST_ROOM {
         return Ran {
             read: false,
             holds: false,
@@ -349,7 +364,7 @@ fn run_rest(from: Input, base: &[u8], p: Parts) -> Ran
 
 // The next case. One that does not hold is named.
 fn next_case(p: CaseProgress, from: Input, file: &[u8], base: &[u8]) -> CaseProgress
-    requires { ⌜ length (now base) ≡ 12800 ⌝ }
+    requires { ⌜ length (now base) ≡ imageSize ⌝ }
 {
     let mut head = [0u8; 38];
     let h = fill(from, &mut head);
@@ -364,12 +379,12 @@ fn next_case(p: CaseProgress, from: Input, file: &[u8], base: &[u8]) -> CaseProg
     if !r.holds {
         tell_case(file, &head[0..32]);
     }
-    after_case(p, (q.after - q.answers) / 16, r.holds)
+    after_case(p, (q.after - q.answers) / ANSWER_WIDTH, r.holds)
 }
 
 // All cases. The loop counts its turns down, since nothing says that a file ends.
 fn run_cases(from: Input, file: &[u8], base: &[u8]) -> CaseProgress
-    requires { ⌜ length (now base) ≡ 12800 ⌝ }
+    requires { ⌜ length (now base) ≡ imageSize ⌝ }
 {
     let mut p = CaseProgress {
         cases: 0,
@@ -387,9 +402,9 @@ fn run_cases(from: Input, file: &[u8], base: &[u8]) -> CaseProgress
 
 // The image, and then the cases.
 fn read_cases(from: Input, file: &[u8]) -> CaseProgress {
-    let mut base = [0u8; 12800];
+    let mut base = [0u8; IMAGE_SIZE];
     let f = fill(from, &mut base);
-    if f.n != 12800 {
+    if f.n != IMAGE_SIZE {
         return CaseProgress {
             cases: 0,
             records: 0,
@@ -416,8 +431,8 @@ fn compare_cases(t: Totals, name: &[u8], path: &[u8]) -> Totals {
     t.with(p.cases, p.records, p.differences)
 }
 
-fn main() {
-    let t = Totals::none();
+// The logs that were written by hand.
+fn compare_written_logs(t: Totals) -> Totals {
     let t = compare_log(t, b"empty", b"empty.log", b"empty.answers", b"empty.image");
     let t = compare_log(
         t,
@@ -433,13 +448,17 @@ fn main() {
         b"w1_to_w14.answers",
         b"w1_to_w14.image",
     );
-    let t = compare_log(
+    compare_log(
         t,
         b"malformed",
         b"malformed.log",
         b"malformed.answers",
         b"malformed.image",
-    );
+    )
+}
+
+// The logs that end in a short part.
+fn compare_short_logs(t: Totals) -> Totals {
     let t = compare_log(
         t,
         b"short_1",
@@ -454,13 +473,17 @@ fn main() {
         b"short_16.answers",
         b"short_16.image",
     );
-    let t = compare_log(
+    compare_log(
         t,
         b"short_135",
         b"short_135.log",
         b"short_135.answers",
         b"short_135.image",
-    );
+    )
+}
+
+// The random logs.
+fn compare_random_logs(t: Totals) -> Totals {
     let t = compare_log(t, b"mixed", b"mixed.log", b"mixed.answers", b"mixed.image");
     let t = compare_log(t, b"wide", b"wide.log", b"wide.answers", b"wide.image");
     let t = compare_log(
@@ -470,13 +493,24 @@ fn main() {
         b"isolation.answers",
         b"isolation.image",
     );
-    let t = compare_log(t, b"long", b"long.log", b"long.answers", b"long.image");
+    compare_log(t, b"long", b"long.log", b"long.answers", b"long.image")
+}
+
+// The files of cases.
+fn compare_all_cases(t: Totals) -> Totals {
     let t = compare_cases(t, b"R", b"R.cases");
     let t = compare_cases(t, b"Q", b"Q.cases");
     let t = compare_cases(t, b"M", b"M.cases");
     let t = compare_cases(t, b"T", b"T.cases");
     let t = compare_cases(t, b"X", b"X.cases");
-    let t = compare_cases(t, b"sound_tables", b"sound_tables.cases");
+    compare_cases(t, b"sound_tables", b"sound_tables.cases")
+}
+
+fn main() {
+    let t = compare_written_logs(Totals::none());
+    let t = compare_short_logs(t);
+    let t = compare_random_logs(t);
+    let t = compare_all_cases(t);
     print_number(t.files);
     print(b" files, ");
     print_number(t.cases);

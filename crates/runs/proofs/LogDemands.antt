@@ -3,13 +3,15 @@ use Prim.Native.Nat.{ℕ, _<_}
 use mathlib.Core.Path.{_≡_, refl, ap, _∙_}
 use mathlib.Core.Bool.{true, not}
 use mathlib.Core.List.{List, [], _∷_, _++_, map}
-use lib.ListN.{drop, replicate}
+use lib.ListN.{replicate}
 use borrow.Author.Tests.{ne-eqb}
 use Rattle.ranks.specs.Lists.{mapFromIndex, mapWithIndex, allTrue, firstTrue, sumOf, within, allZero, numbersFrom}
 use Rattle.ranks.specs.Table.{slice, records}
 use Rattle.records.specs.Records.{State, fresh}
 use Rattle.records.specs.Bytes.{fromLittleEndian, toLittleEndian}
 use Rattle.records.specs.InRange.{AllBytes}
+use Rattle.records.specs.Layout.{taskCount}
+use Rattle.records.specs.Status.{SUCCESSFUL}
 use Rattle.records.proofs.DecodeEncode.{from-to-little-endian}
 use Rattle.specification.specs.Answer.{Answer, Outcome}
 use Rattle.specification.specs.Call.{create, call, argumentsInRange}
@@ -24,13 +26,13 @@ use Rattle.theorems.proofs.Fresh.{priorities, fresh-sound}
 use Rattle.theorems.proofs.Noninterference.{fresh-fits, demand-3}
 use Rattle.theorems.proofs.OnBytes.{decode-encode}
 use Rattle.theorems.proofs.SoundSteps.{answer-is}
-use Rattle.calllog.specs.CallLog.{readRecord, answerBytes}
+use Rattle.calllog.specs.CallLog.{readRecord, answerBytes, messageOf, recordCount}
 use Rattle.calllog.specs.CallLog
 use Rattle.calllog.specs.declared.call.Directive.the-variants.{Create}
 use Rattle.calllog.specs.declared.call.Call.the-variants.{By}
 use Rattle.calllog.specs.declared.call.LogResult.{LogResult}
 use Rattle.calllog.specs.declared.call.LogResult.the-variants.{WellFormed}
-use Rattle.runs.specs.Replay.{directiveOf, callOf, outcomeFor, answerRecord, replayFound, replayRecord, replayRecords, recordsOf, countOf, replayed}
+use Rattle.runs.specs.Replay.{directiveOf, callOf, outcomeFor, answerRecord, replayFound, replayRecord, replayRecords, recordsOf, replayed}
 use Rattle.runs.specs.ReplayedRun.{callsIn, eventsOf, OfBytes}
 use Rattle.runs.specs.LogDemands.{LogsNoninterference, createLog, ReplayDemands}
 use Rattle.runs.proofs.ReplayedRuns.{log-of-bytes, calls-in-range, replay-run}
@@ -70,40 +72,40 @@ said name h = ap (λ (n : ℕ). WellFormed (By 0 (Create n 2 8 0))) (from-to-lit
 
 -- priority t+1 for task t
 abbrev start : State
-start = fresh (numbersFrom 1 32)
+start = fresh (numbersFrom 1 taskCount)
 
-good-start : goodPriorities (numbersFrom 1 32) ≡ true
+good-start : goodPriorities (numbersFrom 1 taskCount) ≡ true
 unfolding goodPriorities mapWithIndex mapFromIndex allTrue within numbersFrom
 good-start = refl
 
 start-sound : SoundFacts start
-start-sound = fresh-sound (numbersFrom 1 32) (priorities (numbersFrom 1 32) good-start)
+start-sound = fresh-sound (numbersFrom 1 taskCount) (priorities (numbersFrom 1 taskCount) good-start)
 
 -- no reason to refuse holds, and the id is that of slot 0 with generation 1
-on-records : (name : ℕ) → (name ≡ 0 → ⊥) → callOnRecords start (call 0 (create name 2 8 0)) .answer ≡ record { status = 0; value = 16; woken = 0 }
-unfolding callOnRecords Step.commonRefusals Step.ownRefusals Step.directiveRefusals Step.badCaller Step.effect Create.refusals Create.freeSlot Create.effect Sound.limits fresh mapWithIndex mapFromIndex allTrue within numbersFrom firstTrue sumOf Split.split Split.shareOfSlot Split.shareOfTask Split.shareLimit Layout.idOf
+on-records : (name : ℕ) → (name ≡ 0 → ⊥) → callOnRecords start (call 0 (create name 2 8 0)) .answer ≡ record { status = SUCCESSFUL; value = Layout.idOf 1 0; woken = 0 }
+unfolding callOnRecords Step.commonRefusals Step.ownRefusals Step.directiveRefusals Step.badCaller Step.effect Create.refusals Create.freeSlot Create.effect Sound.limits fresh mapWithIndex mapFromIndex allTrue within numbersFrom firstTrue sumOf Split.shareOfSlot Split.shareOfTask Split.shareLimit Layout.idOf
 on-records name ne =
     ap (λ (o : Outcome State). o .answer)
     (refuses-none start _ (Step.effect start (call 0 (create name 2 8 0)))
     (ap not (is-sound start start-sound), (refl, (ne-eqb name 0 ne, (refl, (refl, (refl, (refl, (refl, tt)))))))))
 
 first-answer : (name : ℕ) → (name ≡ 0 → ⊥)
-    → step (freshTables (numbersFrom 1 32)) (call 0 (create name 2 8 0)) .answer ≡ record { status = 0; value = 16; woken = 0 }
+    → step (freshTables (numbersFrom 1 taskCount)) (call 0 (create name 2 8 0)) .answer ≡ record { status = SUCCESSFUL; value = Layout.idOf 1 0; woken = 0 }
 unfolding freshTables
 first-answer name ne =
-    answer-is (freshTables (numbersFrom 1 32)) (layout .fresh (numbersFrom 1 32) good-start) (call 0 (create name 2 8 0))
-    ∙ ap (λ (s : State). callOnRecords s (call 0 (create name 2 8 0)) .answer) (decode-encode start (start-sound .sized) (fresh-fits (numbersFrom 1 32) good-start))
+    answer-is (freshTables (numbersFrom 1 taskCount)) (layout .fresh (numbersFrom 1 taskCount) good-start) (call 0 (create name 2 8 0))
+    ∙ ap (λ (s : State). callOnRecords s (call 0 (create name 2 8 0)) .answer) (decode-encode start (start-sound .sized) (fresh-fits (numbersFrom 1 taskCount) good-start))
     ∙ on-records name ne
 
 one-create : (name : ℕ) → name < 4294967296 → (name ≡ 0 → ⊥)
-    → replayed (freshTables (numbersFrom 1 32)) (createLog name) .answers ≡ 0x00 ∷ 0x01 ∷ 0x00 ∷ 0x00 ∷ 0x10 ∷ replicate 11 0x00
-unfolding replayed replayRecords replayRecord replayFound recordsOf countOf records toLittleEndian outcomeFor callOf directiveOf answerBytes
+    → replayed (freshTables (numbersFrom 1 taskCount)) (createLog name) .answers ≡ 0x00 ∷ 0x01 ∷ 0x00 ∷ 0x00 ∷ 0x10 ∷ replicate 11 0x00
+unfolding replayed replayRecords replayRecord replayFound recordsOf recordCount records toLittleEndian outcomeFor callOf directiveOf answerBytes Layout.idOf
 one-create name h ne =
-    ap (λ (f : LogResult). answerRecord (outcomeFor (freshTables (numbersFrom 1 32)) f (drop 16 (createLog name)) .answer) 1 ++ []) (said name h)
+    ap (λ (f : LogResult). answerRecord (outcomeFor (freshTables (numbersFrom 1 taskCount)) f (messageOf (createLog name)) .answer) 1 ++ []) (said name h)
     ∙ ap (λ (a : Answer). answerRecord a 1 ++ []) (first-answer name ne)
 
 pub replay-demands : ReplayDemands
-unfolding replayed recordsOf countOf records replayRecords
+unfolding replayed recordsOf recordCount records replayRecords
 replay-demands =
     record {
       demand-3 =

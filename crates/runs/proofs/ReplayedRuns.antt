@@ -11,6 +11,7 @@ use Rattle.ranks.specs.Table.{slice, byte, records}
 use Rattle.ranks.proofs.Tests.{either, lt-or-ge}
 use Rattle.records.specs.Bytes.{Tables, rightLengths, decode, fromLittleEndian, toLittleEndian}
 use Rattle.records.specs.InRange.{AllBytes}
+use Rattle.records.specs.Status.{SUCCESSFUL, WAITING, BAD-SHAPE, CORRUPT}
 use Rattle.records.proofs.ByteLists.{bytes-take, bytes-drop}
 use Rattle.records.proofs.DecodeEncode.{from-to-little-endian}
 use Rattle.specification.specs.Answer.{Answer, Outcome, refuse}
@@ -23,10 +24,10 @@ use Rattle.theorems.specs.Demands.{AnswerInRange}
 use Rattle.theorems.proofs.Demand1.{demand-1}
 use Rattle.theorems.proofs.Demand2.{demand-2}
 use Rattle.manager.proofs.Outcomes.{Slice}
-use Rattle.calllog.specs.CallLog.{readRecord, answerBytes}
+use Rattle.calllog.specs.CallLog.{readRecord, answerBytes, recordWidth, messageOf, answerWidth, recordCount}
 use Rattle.calllog.specs.declared.call.LogResult.{LogResult}
 use Rattle.calllog.specs.declared.call.LogResult.the-variants.{WellFormed, Malformed, End}
-use Rattle.runs.specs.Replay.{callOf, outcomeFor, answerRecord, Replayed, replayFound, replayRecord, replayRecords, recordsOf, countOf, replayed}
+use Rattle.runs.specs.Replay.{callOf, outcomeFor, answerRecord, Replayed, replayFound, replayRecord, replayRecords, recordsOf, replayed}
 use Rattle.runs.specs.ReplayedRun.{callSaid, callsSaid, writtenFor, written, answerIn, eventsFrom, OfBytes, ReplayIsRun}
 use Rattle.runs.proofs.TableStatus.{InRange, record-in-range}
 
@@ -46,14 +47,14 @@ replay-is-run (r ∷ rs) t = go (readRecord r) (replay-is-run rs)
     after a x = record { answers = answerRecord a (byte 0 r) ++ x .answers; after = x .after }
 
     go : (f : LogResult) → ((t : Tables) → replayRecords t rs ≡ asRun t rs)
-        → after (outcomeFor t f (drop 16 r) .answer) (replayRecords (outcomeFor t f (drop 16 r) .after) rs)
+        → after (outcomeFor t f (messageOf r) .answer) (replayRecords (outcomeFor t f (messageOf r) .after) rs)
         ≡ record {
-          answers = writtenFor f (byte 0 r) (written rs) (run t (callSaid f (drop 16 r) ++ callsSaid rs) .events);
-          after = run t (callSaid f (drop 16 r) ++ callsSaid rs) .tables;
+          answers = writtenFor f (byte 0 r) (written rs) (run t (callSaid f (messageOf r) ++ callsSaid rs) .events);
+          after = run t (callSaid f (messageOf r) ++ callsSaid rs) .tables;
         }
-    go (WellFormed c) rest = ap (after (step t (callOf c (drop 16 r)) .answer)) (rest (step t (callOf c (drop 16 r)) .after))
-    go Malformed rest = ap (after (refuse t 16 .answer)) (rest t)
-    go End rest = ap (after (refuse t 16 .answer)) (rest t)
+    go (WellFormed c) rest = ap (after (step t (callOf c (messageOf r)) .answer)) (rest (step t (callOf c (messageOf r)) .after))
+    go Malformed rest = ap (after (refuse t BAD-SHAPE .answer)) (rest t)
+    go End rest = ap (after (refuse t BAD-SHAPE .answer)) (rest t)
 
 -- ---- A log of bytes
 
@@ -65,22 +66,22 @@ every-byte : {l : List ℕ} → AllBytes l → Slice l
 every-byte {l} b i =
     ⊎-elim (λ (h : i < length l). b .below i h) (λ (h : length l ≤ i). omega (arith, List·getD-eq-default l 0 {n = i} h)) (lt-or-ge i (length l))
 
-records-of-bytes : (k : ℕ) {l : List ℕ} → AllBytes l → EachOfBytes (records k 136 l)
+records-of-bytes : (k : ℕ) {l : List ℕ} → AllBytes l → EachOfBytes (records k recordWidth l)
 unfolding records
 records-of-bytes zero b = tt
-records-of-bytes (suc k) b = (every-byte (bytes-take 136 b), records-of-bytes k (bytes-drop 136 b))
+records-of-bytes (suc k) b = (every-byte (bytes-take recordWidth b), records-of-bytes k (bytes-drop recordWidth b))
 
 pub log-of-bytes : (log : List ℕ) → AllBytes log → EachOfBytes (recordsOf log)
 unfolding recordsOf
-log-of-bytes log b = records-of-bytes (countOf (length log)) b
+log-of-bytes log b = records-of-bytes (recordCount (length log)) b
 
 pub calls-in-range : (rs : List (List ℕ)) → EachOfBytes rs → allTrue (map argumentsInRange (callsSaid rs)) ≡ true
 unfolding callsSaid callSaid allTrue
 calls-in-range [] b = refl
 calls-in-range (r ∷ rs) b = go (readRecord r) (record-in-range r (b .0)) (calls-in-range rs (b .1))
   where
-    go : (f : LogResult) → InRange (drop 16 r) f → allTrue (map argumentsInRange (callsSaid rs)) ≡ true
-        → allTrue (map argumentsInRange (callSaid f (drop 16 r) ++ callsSaid rs)) ≡ true
+    go : (f : LogResult) → InRange (messageOf r) f → allTrue (map argumentsInRange (callsSaid rs)) ≡ true
+        → allTrue (map argumentsInRange (callSaid f (messageOf r) ++ callsSaid rs)) ≡ true
     go (WellFormed c) p rest = rw p rest
     go Malformed p rest = rest
     go End p rest = rest
@@ -90,13 +91,13 @@ calls-in-range (r ∷ rs) b = go (readRecord r) (record-in-range r (b .0)) (call
 -- tables on which every call is refused with one status
 record Refusing (t : Tables) : Type 0 where
   status : ℕ
-  small : status ≤ 16
+  small : status ≤ BAD-SHAPE
   refuses : (c : Call) → step t c ≡ refuse t status
 
 Answering : Tables → Type 0
 Answering t = SoundTables t ⊎ Refusing t
 
-refused-as : (t : Tables) (c : Call) (n : ℕ) → (n ≡ 0 → ⊥) → (n ≡ 14 → ⊥) → step t c .answer .status ≡ n → step t c ≡ refuse t n
+refused-as : (t : Tables) (c : Call) (n : ℕ) → (n ≡ SUCCESSFUL → ⊥) → (n ≡ WAITING → ⊥) → step t c .answer .status ≡ n → step t c ≡ refuse t n
 refused-as t c n a b e = demand-1 .refused t c (λ z. a (sym e ∙ z)) (λ z. b (sym e ∙ z)) ∙ ap (refuse t) e
 
 answering : (t : Tables) → OfBytes t → Answering t
@@ -107,15 +108,15 @@ answering t b = go (either (rightLengths t)) (either (sound (decode t)))
     go (inl h) (inl s) = inl (record { bytes = record { lengths = h; queues = b .queues; pool = b .pool; tasks = b .tasks }; isSound = s })
     go (inl h) (inr s) =
         inr (record {
-          status = 10;
+          status = CORRUPT;
           small = omega arith;
-          refuses = λ c. refused-as t c 10 (λ z. omega arith) (λ z. omega arith) (demand-1 .corrupt t c .1 (h, s));
+          refuses = λ c. refused-as t c CORRUPT (λ z. omega arith) (λ z. omega arith) (demand-1 .corrupt t c .1 (h, s));
         })
     go (inr h) s =
         inr (record {
-          status = 16;
+          status = BAD-SHAPE;
           small = omega arith;
-          refuses = λ c. refused-as t c 16 (λ z. omega arith) (λ z. omega arith) (demand-1 .bad-shape t c .1 h);
+          refuses = λ c. refused-as t c BAD-SHAPE (λ z. omega arith) (λ z. omega arith) (demand-1 .bad-shape t c .1 h);
         })
 
 module _ (t : Tables) (c : Call) where
@@ -132,7 +133,7 @@ module _ (t : Tables) (c : Call) where
 
 -- ---- What is written, read back
 
-read-back : (a : Answer) (firstByte : ℕ) (rest : List ℕ) → AnswerInRange a → answerIn (take 16 (answerRecord a firstByte ++ rest)) ≡ a
+read-back : (a : Answer) (firstByte : ℕ) (rest : List ℕ) → AnswerInRange a → answerIn (take answerWidth (answerRecord a firstByte ++ rest)) ≡ a
 unfolding answerIn answerBytes toLittleEndian fromLittleEndian slice
 read-back a firstByte rest r =
     ap₂ {C = Answer} (λ (v w : ℕ). record { status = a .status; value = v; woken = w })
@@ -143,21 +144,21 @@ unfolding eventsFrom replayRecords replayRecord replayFound outcomeFor run calls
 events-are [] t k b = refl
 events-are (r ∷ rs) t k b = go (readRecord r) (record-in-range r (b .0)) (λ t′ k′. events-are rs t′ k′ (b .1))
   where
-    go : (f : LogResult) → InRange (drop 16 r) f
+    go : (f : LogResult) → InRange (messageOf r) f
         → ((t : Tables) → Answering t → eventsFrom rs (replayRecords t rs .answers) ≡ run t (callsSaid rs) .events)
         → map
         (λ c. record {
           call = c;
-          answer = answerIn (take 16 (answerRecord (outcomeFor t f (drop 16 r) .answer) (byte 0 r) ++ replayRecords (outcomeFor t f (drop 16 r) .after) rs .answers));
+          answer = answerIn (take answerWidth (answerRecord (outcomeFor t f (messageOf r) .answer) (byte 0 r) ++ replayRecords (outcomeFor t f (messageOf r) .after) rs .answers));
         })
-        (callSaid f (drop 16 r))
-        ++ eventsFrom rs (drop 16 (answerRecord (outcomeFor t f (drop 16 r) .answer) (byte 0 r) ++ replayRecords (outcomeFor t f (drop 16 r) .after) rs .answers))
-        ≡ run t (callSaid f (drop 16 r) ++ callsSaid rs) .events
+        (callSaid f (messageOf r))
+        ++ eventsFrom rs (drop answerWidth (answerRecord (outcomeFor t f (messageOf r) .answer) (byte 0 r) ++ replayRecords (outcomeFor t f (messageOf r) .after) rs .answers))
+        ≡ run t (callSaid f (messageOf r) ++ callsSaid rs) .events
     go (WellFormed c) p rest =
-        ap₂ {C = List Event} (λ (a : Answer) (es : List Event). record { call = callOf c (drop 16 r); answer = a } ∷ es)
-        (read-back (step t (callOf c (drop 16 r)) .answer) (byte 0 r) (replayRecords (step t (callOf c (drop 16 r)) .after) rs .answers)
-        (answer-in-range t (callOf c (drop 16 r)) k))
-        (rest (step t (callOf c (drop 16 r)) .after) (answering-still t (callOf c (drop 16 r)) p k))
+        ap₂ {C = List Event} (λ (a : Answer) (es : List Event). record { call = callOf c (messageOf r); answer = a } ∷ es)
+        (read-back (step t (callOf c (messageOf r)) .answer) (byte 0 r) (replayRecords (step t (callOf c (messageOf r)) .after) rs .answers)
+        (answer-in-range t (callOf c (messageOf r)) k))
+        (rest (step t (callOf c (messageOf r)) .after) (answering-still t (callOf c (messageOf r)) p k))
     go Malformed p rest = rest t k
     go End p rest = rest t k
 

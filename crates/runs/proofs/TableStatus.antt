@@ -1,6 +1,6 @@
 -- The tests of the tables give the same verdict after each record of a log as before it. Assumes nothing.
-use Prim.Native.Nat.{ℕ, zero, suc, _+_, _^_, _≤_, _<_}
-use native.Mathlib.Nat.{pow-suc}
+use Prim.Native.Nat.{ℕ, suc, _+_, _^_, _≤_, _<_}
+use native.Mathlib.Nat.{lt-of-lt-of-le, pow-le-pow-right}
 use native.Mathlib.Omega.{arith}
 use mathlib.Core.Path.{_≡_, refl, sym, ap, subst, _∙_}
 use mathlib.Core.Bool.{Bool, true, false, _&&_}
@@ -10,11 +10,13 @@ use lib.Dec.{eqb, ltb}
 use lib.ListN.{length, take, drop, length-take, List·getD-eq-default}
 use lib.Seq.{getD-take, getD-drop}
 use borrow.Author.Tests.{lt-ltb}
+use Rattle.records.specs.Layout.{byteValues}
 use Rattle.ranks.specs.Lists.{if_then_else_, allTrue}
 use Rattle.ranks.specs.Table.{slice}
 use Rattle.ranks.proofs.Tests.{lt-or-ge}
 use Rattle.records.specs.Bytes.{Tables, fromLittleEndian}
-use Rattle.records.specs.Status.{statusNumber, verdictStatus}
+use Rattle.records.proofs.Fits.{number-bound}
+use Rattle.records.specs.Status.{statusNumber, verdictStatus, SUCCESSFUL}
 use Rattle.records.specs.declared.status.RefusalStatus.{RefusalStatus}
 use Rattle.records.specs.declared.status.Verdict.{Verdict}
 use Rattle.records.specs.declared.status.Verdict.the-variants.{Passed, Refused}
@@ -23,10 +25,11 @@ use Rattle.specification.specs.Call.{Call, call, tick, argumentsInRange, direct
 use Rattle.specification.specs.Step.{step}
 use Rattle.theorems.specs.SoundTables.{SoundTables}
 use Rattle.theorems.proofs.Demand2.{demand-2}
-use Rattle.manager.specs.Outcomes.{tableRefusals}
+use Rattle.common_refusals.specs.Tested.{tableRefusals}
 use Rattle.manager.proofs.Outcomes.{Slice}
-use Rattle.manager.proofs.Calls.{refused-call, table-refused, table-passed, tick-refused}
-use Rattle.calllog.specs.CallLog.{recordWidth, operation, caller, option, size, id, ticks, limit, maxSize, _of_, rowOf, keepsRow, callWith, readRecord}
+use Rattle.common_refusals.proofs.FirstTests.{table-refused, table-passed}
+use Rattle.manager.proofs.Calls.{refused-call, tick-refused}
+use Rattle.calllog.specs.CallLog.{recordWidth, operation, caller, option, size, id, ticks, limit, maxSize, _of_, rowOf, keepsRow, callWith, readRecord, messagePlace, messageOf}
 use Rattle.calllog.specs.CallLog
 use Rattle.calllog.specs.declared.call.LogResult.{LogResult}
 use Rattle.calllog.specs.declared.call.LogResult.the-variants.{WellFormed, Malformed, End}
@@ -39,35 +42,28 @@ Word n = ltb n 4294967296 ≡ true
 
 taken : (n : ℕ) (l : List ℕ) → Slice l → Slice (take n l)
 taken n l s i =
-    ⊎-elim (λ (h : i < n). subst (λ (b : ℕ). b < 256) (sym (getD-take n l i 0 h)) (s i))
+    ⊎-elim (λ (h : i < n). subst (λ (b : ℕ). b < byteValues) (sym (getD-take n l i 0 h)) (s i))
     (λ (h : n ≤ i). let e = List·getD-eq-default (take n l) 0 {n = i} (omega (arith, length-take n l)) in omega (arith, e)) (lt-or-ge i n)
 
 dropped : (n : ℕ) (l : List ℕ) → Slice l → Slice (drop n l)
-dropped n l s i = subst (λ (b : ℕ). b < 256) (sym (getD-drop n l i 0)) (s (n + i))
+dropped n l s i = subst (λ (b : ℕ). b < byteValues) (sym (getD-drop n l i 0)) (s (n + i))
 
 pub sliced : (i n : ℕ) (l : List ℕ) → Slice l → Slice (slice i n l)
 unfolding slice
 sliced i n l s = taken n (drop i l) (dropped i l s)
 
-all-bytes : (l : List ℕ) → Slice l → allTrue (map (λ b. ltb b 256) l) ≡ true
+all-bytes : (l : List ℕ) → Slice l → allTrue (map (λ b. ltb b byteValues) l) ≡ true
 unfolding allTrue
 all-bytes [] s = refl
-all-bytes (b ∷ l) s = rw (lt-ltb b 256 (s 0)) (all-bytes l (λ i. s (suc i)))
-
-number-below : (n : ℕ) (l : List ℕ) → length l ≤ n → Slice l → fromLittleEndian l < 256 ^ n
-unfolding fromLittleEndian
-number-below n [] h s = power n
-  where
-    power : (n : ℕ) → 0 < 256 ^ n
-    power zero = omega arith
-    power (suc n) = omega (arith, power n, pow-suc 256 n)
-number-below zero (b ∷ l) h s = absurd (omega (arith, h))
-number-below (suc n) (b ∷ l) h s = omega (arith, number-below n l (omega (arith, h)) (λ i. s (suc i)), s 0, pow-suc 256 n)
+all-bytes (b ∷ l) s = rw (lt-ltb b byteValues (s 0)) (all-bytes l (λ i. s (suc i)))
 
 word : (i n : ℕ) (r : List ℕ) → n ≤ 4 → Slice r → Word (fromLittleEndian (slice i n r))
 unfolding slice
 word i n r h s =
-    lt-ltb (fromLittleEndian (slice i n r)) 4294967296 (number-below 4 (slice i n r) (omega (arith, length-take n (drop i r))) (sliced i n r s))
+    let part = slice i n r in
+    let fewer : length part ≤ 4 = omega (arith, length-take n (drop i r)) in
+    let more : byteValues ^ length part ≤ byteValues ^ 4 = pow-le-pow-right (omega arith) fewer in
+    lt-ltb (fromLittleEndian part) 4294967296 (lt-of-lt-of-le (number-bound part (record { below = λ k _. sliced i n r s k })) more)
 
 -- ---- The numbers of a call are of 32 bits, and its message is of bytes
 
@@ -95,11 +91,11 @@ call-in-range m op caller′ option′ size′ id′ ticks′ limit′ maxSize�
     (either m (eqb op 9) _ _ (rw (c, i))
     (either m (eqb op 10) _ Malformed refl tt)))))))))
 
-pub record-in-range : (r : List ℕ) → Slice r → InRange (drop 16 r) (readRecord r)
+pub record-in-range : (r : List ℕ) → Slice r → InRange (messageOf r) (readRecord r)
 unfolding readRecord CallLog.callIn
 record-in-range r s =
-    either (drop 16 r) (eqb (length r) recordWidth && keepsRow (rowOf (operation of r)) r) (CallLog.callIn r) Malformed
-    (call-in-range (drop 16 r) (operation of r) (caller of r) (option of r) (size of r) (id of r) (ticks of r) (limit of r) (maxSize of r) (dropped 16 r s)
+    either (messageOf r) (eqb (length r) recordWidth && keepsRow (rowOf (operation of r)) r) (CallLog.callIn r) Malformed
+    (call-in-range (messageOf r) (operation of r) (caller of r) (option of r) (size of r) (id of r) (ticks of r) (limit of r) (maxSize of r) (dropped messagePlace r s)
     (word 1 1 r (omega arith) s) (word 2 1 r (omega arith) s) (word 4 4 r (omega arith) s) (word 8 4 r (omega arith) s) (word 12 1 r (omega arith) s) (word 13 1 r (omega arith) s))
     tt
 
@@ -113,7 +109,7 @@ module _ (t : Tables) where
 
   module _ (bq : Slice (t .queues)) (bp : Slice (t .pool)) (bw : Slice (t .tasks)) where
     -- a call on tables that passed them leaves sound tables
-    sound-still : (c : Call) → argumentsInRange c ≡ true → 0 ≡ firstStatus (tableRefusals t) → 0 ≡ firstStatus (tableRefusals (step t c .after))
+    sound-still : (c : Call) → argumentsInRange c ≡ true → SUCCESSFUL ≡ firstStatus (tableRefusals t) → SUCCESSFUL ≡ firstStatus (tableRefusals (step t c .after))
     unfolding firstStatus
     sound-still c p e =
         let ok = table-passed t e in
@@ -129,9 +125,9 @@ module _ (t : Tables) where
     unfolding replayRecord replayFound outcomeFor
     verdict-stays v e r s = go v e (readRecord r) (record-in-range r s)
       where
-        go : (v : Verdict) → verdictStatus v ≡ firstStatus (tableRefusals t) → (f : LogResult) → InRange (drop 16 r) f
-            → verdictStatus v ≡ firstStatus (tableRefusals (outcomeFor t f (drop 16 r) .after))
-        go Passed e (WellFormed c) p = sound-still (callOf c (drop 16 r)) p e
-        go (Refused s) e (WellFormed c) p = e ∙ ap (λ (x : Tables). firstStatus (tableRefusals x)) (unchanged s e (callOf c (drop 16 r)))
+        go : (v : Verdict) → verdictStatus v ≡ firstStatus (tableRefusals t) → (f : LogResult) → InRange (messageOf r) f
+            → verdictStatus v ≡ firstStatus (tableRefusals (outcomeFor t f (messageOf r) .after))
+        go Passed e (WellFormed c) p = sound-still (callOf c (messageOf r)) p e
+        go (Refused s) e (WellFormed c) p = e ∙ ap (λ (x : Tables). firstStatus (tableRefusals x)) (unchanged s e (callOf c (messageOf r)))
         go v e Malformed p = e
         go v e End p = e

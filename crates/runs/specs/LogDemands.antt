@@ -3,7 +3,7 @@
 use Rattle.ranks.specs.Prelude.{ℕ, _<_, _≡_, true, not, _||_, List, [], _∷_, _++_, map, getD, replicate, eqb}
 use Rattle.ranks.specs.Lists.{allTrue, numbersFrom}
 use Rattle.records.specs.Split.{shareOfTask}
-use Rattle.records.specs.Layout.{taskCount}
+use Rattle.records.specs.Layout.{taskCount, capacity}
 use Rattle.records.specs.Bytes.{Tables, toLittleEndian}
 use Rattle.records.specs.InRange.{AllBytes}
 use Rattle.records.specs.Status.{CORRUPT, BAD-SHAPE}
@@ -24,7 +24,7 @@ pub record LogsNoninterference (x : ℕ) (ps ps′ log log′ : List ℕ) : Type
 
 -- the log of a create by task 0 with limit 2, max size 8, attributes 0 and this name
 abbrev pub createLog : (name : ℕ) → List ℕ
-createLog name = 1 ∷ 0 ∷ 0 ∷ 0 ∷ toLittleEndian 4 name ++ (0 ∷ 0 ∷ 0 ∷ 0 ∷ 2 ∷ 8 ∷ 0 ∷ 0 ∷ replicate 120 0)
+createLog name = 1 ∷ 0 ∷ 0 ∷ 0 ∷ toLittleEndian 4 name ++ (0 ∷ 0 ∷ 0 ∷ 0 ∷ 2 ∷ 8 ∷ 0 ∷ 0 ∷ replicate capacity 0)
 
 pub record ReplayDemands : Type 0 where
   -- Demand 3: X's tasks have equal priorities, X is confined, and "what is left of the two lists is equal once every call that isn't X's is struck out"
@@ -47,5 +47,5 @@ pub record ReplayDemands : Type 0 where
   -- "The program starts fresh with priority t+1 for task t." "A log of one create by task 0 (limit 2, max size 8, attributes 0, name not 0) writes
   -- exactly `00 01 00 00 10 00 00 00 00 00 00 00 00 00 00 00`."
   pub one-create : (name : ℕ) → name < 4294967296 → (name ≡ 0 → ⊥)
-      → replayed (freshTables (numbersFrom 1 32)) (createLog name) .answers
+      → replayed (freshTables (numbersFrom 1 taskCount)) (createLog name) .answers
       ≡ 0x00 ∷ 0x01 ∷ 0x00 ∷ 0x00 ∷ 0x10 ∷ 0x00 ∷ 0x00 ∷ 0x00 ∷ 0x00 ∷ 0x00 ∷ 0x00 ∷ 0x00 ∷ 0x00 ∷ 0x00 ∷ 0x00 ∷ 0x00 ∷ []

@@ -1,5 +1,5 @@
 -- Document 01, "The call log": a log replayed over the tables, and what is written of it.
-use Rattle.ranks.specs.Prelude.{ℕ, _+_, _*_, _/_, _≤_, _<_, _≡_, Bool, true, false, List, [], _∷_, _++_, length, take, leb}
+use Rattle.ranks.specs.Prelude.{ℕ, _+_, _*_, _≤_, _<_, Bool, true, false, List, [], _∷_, _++_, length, take, leb}
 use Rattle.ranks.specs.Lists.{if_then_else_}
 use Rattle.ranks.specs.Table.{byte, slice, records, spliced}
 use Rattle.records.specs.Bytes.{Tables}
@@ -8,8 +8,8 @@ use Rattle.records.specs.declared.status.Verdict.{Verdict}
 use Rattle.specification.specs.Answer.{Answer, Outcome, refuse}
 use Rattle.specification.specs.Call.{Directive, Call, create, ident, onQueue, delete, send, urgent, broadcast, receive, getNumberPending, flush, call, tick}
 use Rattle.specification.specs.Step.{step}
-use Rattle.manager.specs.Outcomes.{Tested}
-use Rattle.calllog.specs.CallLog.{recordWidth, readRecord, placeAfter, messageOf, answerBytes}
+use Rattle.common_refusals.specs.Tested.{Tested}
+use Rattle.calllog.specs.CallLog.{recordWidth, readRecord, placeAfter, messageOf, answerBytes, answerWidth, recordCount}
 use Rattle.calllog.specs.declared.call.Directive.{Directive as LogDirective}
 use Rattle.calllog.specs.declared.call.Directive.the-variants.{Create, Ident, Delete, Send, Urgent, Broadcast, Receive, Pending, Flush}
 use Rattle.calllog.specs.declared.call.Call.{Call as LogCall}
@@ -73,13 +73,9 @@ replayRecords t (r ∷ rs) =
     let rest = replayRecords (one .after) rs in
     record { answers = one .answers ++ rest .answers; after = rest .after }
 
--- how many records a log of `n` bytes has, a short last part counted
-unfoldable pub countOf : ℕ → ℕ
-countOf n = (n + 135) / recordWidth
-
 -- a log cut into its records; the last is as long as what is left
 unfoldable pub recordsOf : List ℕ → List (List ℕ)
-recordsOf log = records (countOf (length log)) recordWidth log
+recordsOf log = records (recordCount (length log)) recordWidth log
 
 unfoldable pub replayed : Tables → (log : List ℕ) → Replayed
 replayed t log = replayRecords t (recordsOf log)
@@ -113,12 +109,12 @@ intoLent done r = record { done = done; answers = r .answers; after = r .after }
 -- Nothing is done where the lent bytes have no room for the answer records.
 unfoldable pub replayedInto : Tables → (log lent : List ℕ) → ReplayedInto
 replayedInto t log lent =
-    if leb (countOf (length log) * 16) (length lent) then intoLent true (replayedFront t log lent) else intoLent false (record { answers = lent; after = t })
+    if leb (recordCount (length log) * answerWidth) (length lent) then intoLent true (replayedFront t log lent) else intoLent false (record { answers = lent; after = t })
 
 -- ---- For the code
 
 -- where the next record of a log is replayed: its place is not at the end, its answer record has room, and the tables' own tests gave the verdict
 pub record NextRecord (t : Tables) (verdict : Verdict) (log : List ℕ) (at : ℕ) (lent : List ℕ) (to : ℕ) : Type 0 where
   pub inside : at < length log
-  pub room : to + 16 ≤ length lent
+  pub room : to + answerWidth ≤ length lent
   pub tested : Tested t verdict

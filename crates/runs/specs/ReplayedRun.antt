@@ -7,7 +7,7 @@ use Rattle.records.specs.Status.{BAD-SHAPE}
 use Rattle.specification.specs.Answer.{Answer}
 use Rattle.specification.specs.Call.{Call}
 use Rattle.specification.specs.Run.{Event, run}
-use Rattle.calllog.specs.CallLog.{readRecord, messageOf}
+use Rattle.calllog.specs.CallLog.{readRecord, messageOf, answerWidth}
 use Rattle.calllog.specs.declared.call.LogResult.{LogResult}
 use Rattle.calllog.specs.declared.call.LogResult.the-variants.{WellFormed, Malformed, End}
 use Rattle.runs.specs.Replay.{callOf, answerRecord, recordsOf, replayed}
@@ -57,7 +57,7 @@ answerIn r = record { status = byte 0 r; value = fromLittleEndian (slice 4 4 r);
 unfoldable pub eventsFrom : (records : List (List ℕ)) (answers : List ℕ) → List Event
 eventsFrom [] answers = []
 eventsFrom (r ∷ rs) answers =
-    map (λ c. record { call = c; answer = answerIn (take 16 answers) }) (callSaid (readRecord r) (messageOf r)) ++ eventsFrom rs (drop 16 answers)
+    map (λ c. record { call = c; answer = answerIn (take answerWidth answers) }) (callSaid (readRecord r) (messageOf r)) ++ eventsFrom rs (drop answerWidth answers)
 
 -- of a log replayed from tables
 abbrev pub eventsOf : Tables → (log : List ℕ) → List Event

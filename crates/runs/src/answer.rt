@@ -1,18 +1,20 @@
 // The answer to what a reader found in a log.
 ghost use mathlib.Core.Path.{_≡_};
+ghost use Rattle.records.specs.Bytes.{tables};
 ghost use Rattle.specification.specs.Call.{call};
 ghost use Rattle.specification.specs.Step.{step};
-ghost use Rattle.manager.specs.Outcomes.{answerOf, tables, outcomeOf, Tested};
+ghost use Rattle.common_refusals.specs.Tested.{Tested};
+ghost use Rattle.manager.specs.Outcomes.{answerOf, outcomeOf};
 ghost use Rattle.runs.specs.Replay.{directiveOf, callOf, isCall, outcomeFor, answerRecord};
 use crate::perform::perform;
-use crate::perform::word_of;
 use calllog::answers::answer_bytes;
 use calllog::call::Call;
 use calllog::call::Directive;
 use calllog::call::LogResult;
+use calllog::layout::ANSWER_WIDTH;
+use common_refusals::caller_refusal;
+use common_refusals::table_refusal;
 use manager::answer::Answer;
-use manager::call::caller_refusal;
-use manager::call::table_refusal;
 use manager::clocktick::tick_after;
 use records::status::RefusalStatus;
 use records::status::SUCCESSFUL;
@@ -58,7 +60,7 @@ fn answer_call(
             queues,
             pool,
             tasks,
-            word_of(caller),
+            caller as u32,
             directive,
             field,
             verdict,
@@ -119,7 +121,7 @@ pub fn answer_searching(
 }
 
 // The answer record of a call with this first byte.
-pub fn answer_record(a: Answer, firstByte: u8) -> [u8; 16]
+pub fn answer_record(a: Answer, firstByte: u8) -> [u8; ANSWER_WIDTH]
     ensures { λ r. ⌜ r ≡ answerRecord (answerOf a) firstByte ⌝ }
 {
     match a {

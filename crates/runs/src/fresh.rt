@@ -2,24 +2,27 @@
 ghost use mathlib.Core.Path.{_≡_};
 ghost use mathlib.Core.Bool.{true};
 ghost use lib.ListN.{length};
+ghost use Rattle.records.specs.Layout.{tasksSize, taskCount};
 ghost use Rattle.records.specs.Records.{freshTasks};
-ghost use Rattle.records.specs.Bytes.{decodeTasks, rightLengths};
+ghost use Rattle.records.specs.Bytes.{decodeTasks, rightLengths, tables};
 ghost use Rattle.specification.specs.Run.{goodPriorities, freshTables};
-ghost use Rattle.manager.specs.Outcomes.{tables};
 ghost use Rattle.runs.specs.Fresh.{madeFresh};
-use manager::call::right_lengths;
+use common_refusals::right_lengths;
 use records::bytes::copy_into;
+use records::layout::POOL_SIZE;
+use records::layout::QUEUES_SIZE;
+use records::layout::TASK_COUNT;
 use records::task::write_fresh_task;
 
 // "priorities of 1 to 255", of 32 tasks
 pub fn good_priorities(priorities: &[u8]) -> bool
     ensures { λ r. ⌜ r ≡ goodPriorities (now (priorities .entry)) ⌝ }
 {
-    if priorities.len() != 32 {
+    if priorities.len() != TASK_COUNT {
         return false;
     }
     let mut good = true;
-    'search: for t in 0..32 {
+    'search: for t in 0..TASK_COUNT {
         if priorities[t] == 0 {
             good = false;
             break 'search;
@@ -30,11 +33,11 @@ pub fn good_priorities(priorities: &[u8]) -> bool
 
 // Each task is ready with its priority, and the rest of its record is zero.
 fn make_tasks(tasks: &mut [u8], priorities: &[u8])
-    requires { ⌜ (length (now tasks) ≡ 4352) × (length (now priorities) ≡ 32) ⌝ }
+    requires { ⌜ (length (now tasks) ≡ tasksSize) × (length (now priorities) ≡ taskCount) ⌝ }
     ensures { λ _. ⌜ decodeTasks (now (tasks .exit)) ≡ freshTasks (now (priorities .entry)) ⌝ }
 {
     let mut t = 0;
-    while t < 32 {
+    while t < TASK_COUNT {
         write_fresh_task(tasks, t, priorities[t]);
         t += 1;
     }
@@ -42,11 +45,11 @@ fn make_tasks(tasks: &mut [u8], priorities: &[u8])
 
 // "Fresh tables are zero but for priorities", in tables of the right lengths.
 fn write_fresh(queues: &mut [u8], pool: &mut [u8], tasks: &mut [u8], priorities: &[u8])
-    requires { ⌜ (rightLengths (tables (now queues) (now pool) (now tasks)) ≡ true) × (length (now priorities) ≡ 32) ⌝ }
+    requires { ⌜ (rightLengths (tables (now queues) (now pool) (now tasks)) ≡ true) × (length (now priorities) ≡ taskCount) ⌝ }
     ensures { λ _. ⌜ tables (now (queues .exit)) (now (pool .exit)) (now (tasks .exit)) ≡ freshTables (now (priorities .entry)) ⌝ }
 {
-    let free_queues = [0u8; 256];
-    let free_buffers = [0u8; 8192];
+    let free_queues = [0u8; QUEUES_SIZE];
+    let free_buffers = [0u8; POOL_SIZE];
     copy_into(queues, 0, &free_queues);
     copy_into(pool, 0, &free_buffers);
     make_tasks(tasks, priorities);

@@ -1,7 +1,9 @@
 // A log's directive on the tables.
 ghost use mathlib.Core.Path.{_≡_};
 ghost use lib.ListN.{take};
-ghost use Rattle.manager.specs.Outcomes.{tables, outcomeOf, Callable, accepted};
+ghost use Rattle.records.specs.Bytes.{tables};
+ghost use Rattle.common_refusals.specs.Tested.{Callable};
+ghost use Rattle.manager.specs.Outcomes.{outcomeOf, accepted};
 ghost use Rattle.runs.specs.Replay.{directiveOf};
 use calllog::call::Directive;
 use manager::answer::Answer;
@@ -15,13 +17,6 @@ use manager::msgqreceive::receive;
 use manager::msgqsend::send;
 use manager::msgqurgent::urgent;
 use records::bytes::wide;
-
-// A byte as a number of 32 bits.
-pub fn word_of(b: u8) -> u32
-    ensures { λ r. ⌜ r ≡ b ⌝ }
-{
-    b as u32
-}
 
 // The first n bytes of a message field, or all of it.
 fn message_of(field: &[u8], n: u8) -> &[u8]
@@ -59,9 +54,9 @@ pub fn perform(
             tasks,
             caller,
             name,
-            word_of(limit),
-            word_of(maxSize),
-            word_of(attributes),
+            limit as u32,
+            maxSize as u32,
+            attributes as u32,
         ),
         Directive::Ident { name, share } => ident(queues, pool, tasks, caller, name, share),
         Directive::Delete { id } => delete(queues, pool, tasks, caller, id),
@@ -75,7 +70,7 @@ pub fn perform(
             broadcast(queues, pool, tasks, caller, id, message_of(field, size))
         }
         Directive::Receive { id, option, ticks } => {
-            receive(queues, pool, tasks, caller, id, word_of(option), ticks)
+            receive(queues, pool, tasks, caller, id, option as u32, ticks)
         }
         Directive::Pending { id } => get_number_pending(queues, pool, tasks, caller, id),
         Directive::Flush { id } => flush(queues, pool, tasks, caller, id),

@@ -2,27 +2,20 @@
 ghost use mathlib.Core.Path.{_≡_};
 ghost use Prim.Native.Nat.{_*_, _≤_, _<_};
 ghost use lib.ListN.{length};
-ghost use Rattle.manager.specs.Outcomes.{tables, Tested};
-ghost use Rattle.calllog.specs.CallLog.{messageOf};
-ghost use Rattle.runs.specs.Replay.{NextRecord, replayFound, replayedAt, countOf, replayedFront, replayedInto};
+ghost use Rattle.records.specs.Bytes.{tables};
+ghost use Rattle.common_refusals.specs.Tested.{Tested};
+ghost use Rattle.calllog.specs.CallLog.{answerWidth, recordCount};
+ghost use Rattle.runs.specs.Replay.{NextRecord, replayFound, replayedAt, replayed, replayedFront, replayedInto};
 use crate::answer::answer;
 use crate::answer::answer_record;
 use calllog::call::LogResult;
+use calllog::decode::message_field;
+use calllog::decode::record_count;
+use calllog::layout::ANSWER_WIDTH;
 use calllog::reader::read_at;
-use manager::call::table_refusal;
+use common_refusals::table_refusal;
 use records::bytes::copy_into;
 use records::status::Verdict;
-
-// The message field of a record, which a short part may not have.
-pub fn message_field(part: &[u8]) -> &[u8]
-    ensures { λ r. ⌜ now r ≡ messageOf (now (part .entry)) ⌝ }
-{
-    let n = part.len();
-    if n < 16 {
-        return &part[n..];
-    }
-    &part[16..]
-}
 
 // One record of a log, where the reader found this and the tests of the tables gave this verdict: its answer record.
 fn replay_record(
@@ -32,7 +25,7 @@ fn replay_record(
     found: LogResult,
     part: &[u8],
     verdict: Verdict,
-) -> [u8; 16]
+) -> [u8; ANSWER_WIDTH]
     requires { ⌜ (0 < length (now part)) × Tested (tables (now queues) (now pool) (now tasks)) verdict ⌝ }
     ensures { λ r. ⌜ (record { answers = r; after = tables (now (queues .exit)) (now (pool .exit)) (now (tasks .exit)) })
         ≡ replayFound (tables (now (queues .entry)) (now (pool .entry)) (now (tasks .entry))) found (now (part .entry)) ⌝ }
@@ -65,30 +58,28 @@ fn replay_at(
     next
 }
 
-// How many records a log of n bytes has, a short last part counted.
-pub fn record_count(n: usize) -> usize
-    ensures { λ r. ⌜ r ≡ countOf n ⌝ }
-{
-    if n % 136 == 0 {
-        return n / 136;
-    }
-    n / 136 + 1
-}
-
-// Replays a log. The answer records go to the front of the lent bytes, which have room for them.
+// Replays a log. The answer records go to the front of the lent bytes, which have room for them. How many bytes they are.
 // The tables are searched once, before the first record: sound tables stay sound, and calls on others are refused and change nothing.
-fn replay_all(queues: &mut [u8], pool: &mut [u8], tasks: &mut [u8], log: &[u8], answers: &mut [u8])
-    requires { ⌜ countOf (length (now log)) * 16 ≤ length (now answers) ⌝ }
-    ensures { λ _. ⌜ (record { answers = now (answers .exit); after = tables (now (queues .exit)) (now (pool .exit)) (now (tasks .exit)) })
-        ≡ replayedFront (tables (now (queues .entry)) (now (pool .entry)) (now (tasks .entry))) (now (log .entry)) (now (answers .entry)) ⌝ }
+pub fn replay_all(
+    queues: &mut [u8],
+    pool: &mut [u8],
+    tasks: &mut [u8],
+    log: &[u8],
+    answers: &mut [u8],
+) -> usize
+    requires { ⌜ recordCount (length (now log)) * answerWidth ≤ length (now answers) ⌝ }
+    ensures { λ r. ⌜ (r ≡ length (replayed (tables (now (queues .entry)) (now (pool .entry)) (now (tasks .entry))) (now (log .entry)) .answers))
+        × ((record { answers = now (answers .exit); after = tables (now (queues .exit)) (now (pool .exit)) (now (tasks .exit)) })
+        ≡ replayedFront (tables (now (queues .entry)) (now (pool .entry)) (now (tasks .entry))) (now (log .entry)) (now (answers .entry))) ⌝ }
 {
     let verdict = table_refusal(queues, pool, tasks);
     let mut at = 0;
     let mut to = 0;
     while at < log.len() {
         at = replay_at(queues, pool, tasks, log, at, verdict, answers, to);
-        to += 16;
+        to += ANSWER_WIDTH;
     }
+    to
 }
 
 // Replays a log, or does nothing where the lent bytes have no room for its answer records. Whether it was replayed.
@@ -102,7 +93,7 @@ pub fn replay(
     ensures { λ r. ⌜ (record { done = r; answers = now (answers .exit); after = tables (now (queues .exit)) (now (pool .exit)) (now (tasks .exit)) })
         ≡ replayedInto (tables (now (queues .entry)) (now (pool .entry)) (now (tasks .entry))) (now (log .entry)) (now (answers .entry)) ⌝ }
 {
-    if answers.len() / 16 < record_count(log.len()) {
+    if answers.len() / ANSWER_WIDTH < record_count(log.len()) {
         return false;
     }
     replay_all(queues, pool, tasks, log, answers);

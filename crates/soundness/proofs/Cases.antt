@@ -1,5 +1,5 @@
 -- The rules of one record, as the code tests them. Assumes nothing.
-use Prim.Native.Nat.{ℕ, suc, pred, _≤_, _<_}
+use Prim.Native.Nat.{ℕ, suc, pred, _+_, _≤_, _<_}
 use native.Mathlib.Omega.{arith}
 use mathlib.Core.Path.{_≡_, refl, sym, ap, ap₂, _∙_}
 use mathlib.Core.Bool.{Bool, true, false, _&&_, _||_, and-true, and-false, and-assoc}
@@ -8,17 +8,18 @@ use mathlib.Core.List.{List, [], _∷_}
 use lib.Dec.{eqb, leb, ltb}
 use lib.ListN.{length, drop}
 use borrow.Author.Tests.{eqb-true, eq-eqb, ne-eqb, lt-ltb, le-ltb, le-leb, lt-leb}
-use Rattle.ranks.specs.Lists.{allTrue, allZero, within}
+use Rattle.ranks.specs.Lists.{allTrue, allZero}
 use Rattle.ranks.specs.Table.{slice, byte}
 use Rattle.ranks.proofs.Tests.{both, and, or-left}
 use Rattle.ranks.proofs.Lists.{all-cons, all-nil, holds, held}
+use Rattle.records.specs.Layout.{slotCount, taskWidth}
 use Rattle.records.specs.Split.{shareOfSlot, shareOfBuffer, shareOfTask}
-use Rattle.records.specs.Records.{Queue, Buffer, Task, State, queueAt, isLive, isOpen, sizeAllowed}
+use Rattle.records.specs.Records.{Queue, Buffer, Task, State, queueAt, isLive, isOpen, sizeAllowed, readyState, waitingState}
 use Rattle.records.specs.Bytes.{fromLittleEndian}
 use Rattle.records.specs.Status.{WAITING}
 use Rattle.records.proofs.ZeroBytes.{zero-number, zeros-one, zeros-add}
 use Rattle.specification.proofs.Rules.{Live, Free, queue-rules}
-use Rattle.soundness.specs.Parts.{belowCount, bufferTests, taskTests}
+use Rattle.soundness.specs.Parts.{belowCount, bufferTests, taskTests, usedBufferTests, waitingTaskTests}
 use Rattle.specification.specs.Sound.{slotIn, soundQueue, liveQueueRules, freeQueueRules, limitIn, soundBuffer, freeBufferRules, usedBufferRules, soundTask, taskRules, readyTaskRules, waitingTaskRules}
 
 pub same-truth : (a b : Bool) → (a ≡ true → b ≡ true) → (b ≡ true → a ≡ true) → a ≡ b
@@ -28,28 +29,17 @@ same-truth false false h k = refl
 
 -- ---- Queues
 
-eight : (a b c d e f g h : Bool) → (a && b && c && d && e && f && g && h) ≡ allTrue (a ∷ b ∷ c ∷ d ∷ e ∷ f ∷ g ∷ h ∷ [])
+pub eight : (a b c d e f g h : Bool) → (a && b && c && d && e && f && g && h) ≡ allTrue (a ∷ b ∷ c ∷ d ∷ e ∷ f ∷ g ∷ h ∷ [])
 eight a b c d e f g h = simp (all-cons, all-nil, and-true, and-assoc)
 
-module _ (q : Queue) (z : Bool) (e : z ≡ allZero (q .reserved)) where
-  pub live-is : (leb (q .attributes) 3 && (leb 1 (q .limit) && leb (q .limit) 16) && (leb 1 (q .maxSize) && leb (q .maxSize) 120) && leb 1 (q .generation)
-      && leb 1 (q .name) && z && leb (q .pending) (q .limit) && (eqb (q .pending) 0 || eqb (q .waiters) 0)) ≡ allTrue (liveQueueRules q)
-  unfolding liveQueueRules within
-  live-is = rw (← e) (eight _ _ _ _ _ z _ _)
-
-  pub free-is : (eqb (q .live) 0 && eqb (q .attributes) 0 && eqb (q .limit) 0 && eqb (q .maxSize) 0 && eqb (q .pending) 0 && eqb (q .waiters) 0 && eqb (q .name) 0 && z)
-      ≡ allTrue (freeQueueRules q)
-  unfolding freeQueueRules
-  free-is = rw (← e) (eight _ _ _ _ _ _ _ z)
-
 module _ (q : Queue) where
-  pub sound-live : q .live ≡ 1 → allTrue (liveQueueRules q) ≡ soundQueue q
+  pub sound-live : isLive q ≡ true → allTrue (liveQueueRules q) ≡ soundQueue q
   unfolding soundQueue
-  sound-live e = rw (eq-eqb (q .live) 1 e)
+  sound-live e = rw e
 
-  pub sound-free : (q .live ≡ 1 → ⊥) → allTrue (freeQueueRules q) ≡ soundQueue q
+  pub sound-free : isLive q ≡ false → allTrue (freeQueueRules q) ≡ soundQueue q
   unfolding soundQueue
-  sound-free ne = rw (ne-eqb (q .live) 1 ne)
+  sound-free e = rw e
 
   module _ (share slot : ℕ) where
     pub limit-foreign : (shareOfSlot slot ≡ share → ⊥) → 0 ≡ limitIn share slot q
@@ -74,11 +64,6 @@ module _ (q : Queue) where
 not-none : (n slot : ℕ) → n ≡ suc slot → eqb n 0 ≡ false
 not-none n slot e = ne-eqb n 0 (λ z. omega arith)
 
-third-false : (x y : Bool) → (x && (y && false)) ≡ false
-third-false true true = refl
-third-false true false = refl
-third-false false y = refl
-
 -- ---- Buffers
 
 module _ (s : State) (b : ℕ) (m : Buffer) where
@@ -90,20 +75,20 @@ module _ (s : State) (b : ℕ) (m : Buffer) where
     at-slot : slotIn (m .position) ≡ slot
     at-slot = ap pred e
 
-    pub buffer-beyond : 16 ≤ slot → false ≡ bufferTests s b m
+    pub buffer-beyond : slotCount ≤ slot → false ≡ bufferTests s b m
     unfolding soundBuffer usedBufferRules
-    buffer-beyond h = rw (not-none _ _ e, at-slot, all-cons, le-ltb slot 16 h)
+    buffer-beyond h = rw (not-none _ _ e, at-slot, all-cons, le-ltb slot slotCount h)
 
-    pub buffer-foreign : eqb (shareOfSlot slot) (shareOfBuffer b) ≡ false → false ≡ bufferTests s b m
-    unfolding soundBuffer usedBufferRules
-    buffer-foreign f = rw (not-none _ _ e, at-slot, f) (simp (all-cons, third-false))
+    pub buffer-used : usedBufferTests (queueAt s slot) slot b m ≡ bufferTests s b m
+    unfolding soundBuffer
+    buffer-used = rw (not-none _ _ e, at-slot)
 
-    pub buffer-used : slot < 16 → eqb (shareOfSlot slot) (shareOfBuffer b) ≡ true
-        → (isLive (queueAt s slot) && sizeAllowed (queueAt s slot) (m .messageLength) && allZero (m .reserved) && allZero (drop (m .messageLength) (m .bytes))
-        && ltb (m .position .rank) (queueAt s slot .pending)) ≡ bufferTests s b m
-    unfolding soundBuffer usedBufferRules
-    buffer-used h f =
-        rw (not-none _ _ e, at-slot, lt-ltb slot 16 h, f) (simp (all-cons, all-nil, and-true, and-assoc))
+module _ (q : Queue) (slot b : ℕ) (m : Buffer) {live own size zeros rest : Bool} where
+  pub used-tests : slot < slotCount → live ≡ isLive q → own ≡ eqb (shareOfSlot slot) (shareOfBuffer b) → size ≡ sizeAllowed q (m .messageLength)
+      → zeros ≡ allZero (m .reserved) → rest ≡ allZero (drop (m .messageLength) (m .bytes))
+      → (live && own && size && zeros && rest && ltb (m .position .rank) (q .pending)) ≡ usedBufferTests q slot b m
+  unfolding usedBufferRules
+  used-tests lt l o s z r = rw (l, o, s, z, r, lt-ltb slot slotCount lt) (simp (all-cons, all-nil, and-true, and-assoc))
 
 -- ---- Tasks
 
@@ -118,7 +103,7 @@ same-tests a b c d e t u p s l =
     let (p, (d, (e, (u, (a, (b, (c, (t, (s, (l, _)))))))))) = holds (p ∷ d ∷ e ∷ u ∷ a ∷ b ∷ c ∷ t ∷ s ∷ l ∷ []) x in
     held (_ ∷ _ ∷ _ ∷ _ ∷ _ ∷ _ ∷ _ ∷ _ ∷ _ ∷ _ ∷ []) (a, (b, (c, (d, (e, (t, (u, (p, (s, (l, tt)))))))))))
 
-module _ (r : List ℕ) (long : length r ≡ 136) where
+module _ (r : List ℕ) (long : length r ≡ taskWidth) where
   pub ready-tests : (a b c p s l : Bool)
       → (a && b && c && eqb (byte 6 r) 0 && eqb (byte 7 r) 0 && allZero (slice 8 8 r) && p && s && l)
       ≡ (allTrue (p ∷ allZero (slice 6 2 r) ∷ allZero (slice 12 4 r) ∷ []) && allTrue (a ∷ b ∷ c ∷ eqb (fromLittleEndian (slice 8 4 r)) 0 ∷ s ∷ l ∷ []))
@@ -140,38 +125,43 @@ module _ (r : List ℕ) (long : length r ≡ 136) where
       pair = sym (zeros-add 6 1 1 r) ∙ sym (ap₂ (λ (x y : Bool). x && y) (zeros-one r 6 (omega arith)) (zeros-one r 7 (omega arith)))
 
 module _ (s : State) (t : ℕ) (w : Task) where
-  task-ready : (w .state ≡ 1 → ⊥) → (allTrue (taskRules w) && allTrue (readyTaskRules w)) ≡ soundTask s t w
+  task-ready : (w .state ≡ waitingState → ⊥) → (allTrue (taskRules w) && allTrue (readyTaskRules w)) ≡ soundTask s t w
   unfolding soundTask
-  task-ready ne = rw (ne-eqb (w .state) 1 ne)
+  task-ready ne = rw (ne-eqb (w .state) waitingState ne)
 
   -- all that a ready task has to be
   pub task-is-ready : (allTrue (taskRules w) && allTrue (readyTaskRules w)) ≡ true → true ≡ taskTests s t w
   unfolding readyTaskRules
   task-is-ready e =
       let rules = holds _ (both (allTrue (taskRules w)) (allTrue (readyTaskRules w)) e .1) in
-      let zero : w .state ≡ 0 = eqb-true _ _ (rules .0) in
+      let zero : w .state ≡ readyState = eqb-true _ _ (rules .0) in
       sym (and (sym (task-ready (λ one. omega arith)) ∙ e) (or-left _ (rules .1 .0)))
 
-  pub task-not-ready : (w .state ≡ 1 → ⊥) → false ≡ (allTrue (taskRules w) && allTrue (readyTaskRules w)) → false ≡ taskTests s t w
+  pub task-not-ready : (w .state ≡ waitingState → ⊥) → false ≡ (allTrue (taskRules w) && allTrue (readyTaskRules w)) → false ≡ taskTests s t w
   task-not-ready ne e = ap (λ (x : Bool). x && belowCount false (s .queues) (w .position)) (e ∙ task-ready ne)
 
-  pub task-nowhere : w .state ≡ 1 → w .position .queue ≡ 0 → false ≡ taskTests s t w
-  unfolding soundTask waitingTaskRules
-  task-nowhere o e = rw (eq-eqb (w .state) 1 o, all-cons, lt-leb 1 (w .position .queue) (omega arith), and-false)
-
-  module _ (o : w .state ≡ 1) (slot : ℕ) (e : w .position .queue ≡ suc slot) where
-    named-slot : slotIn (w .position) ≡ slot
-    named-slot = ap pred e
-
-    named : leb 1 (w .position .queue) ≡ true
-    named = le-leb 1 (w .position .queue) (omega arith)
-
-    pub task-beyond : 16 ≤ slot → false ≡ taskTests s t w
+  module _ (waits : w .state ≡ waitingState) where
+    pub task-nowhere : w .position .queue ≡ 0 → false ≡ taskTests s t w
     unfolding soundTask waitingTaskRules
-    task-beyond h = rw (eq-eqb (w .state) 1 o, named-slot, named, le-ltb slot 16 h) (simp (all-cons, and-false))
+    task-nowhere e = rw (eq-eqb (w .state) waitingState waits, all-cons, lt-leb 1 (w .position .queue) (omega arith), and-false)
 
-    pub task-waiting : slot < 16
-        → (allTrue (taskRules w) && (isLive (queueAt s slot) && (eqb (shareOfSlot slot) (shareOfTask t) || isOpen (queueAt s slot)) && eqb (w .status) WAITING && eqb (w .messageLength) 0)
-        && ltb (w .position .rank) (queueAt s slot .waiters)) ≡ taskTests s t w
-    unfolding soundTask waitingTaskRules
-    task-waiting h = rw (eq-eqb (w .state) 1 o, named-slot, named, lt-ltb slot 16 h, not-none _ _ e) (simp (all-cons, all-nil, and-true, and-assoc))
+    module _ (slot : ℕ) (e : w .position .queue ≡ suc slot) where
+      named-slot : slotIn (w .position) ≡ slot
+      named-slot = ap pred e
+
+      pub task-beyond : slotCount ≤ slot → false ≡ taskTests s t w
+      unfolding soundTask waitingTaskRules
+      task-beyond h = rw (eq-eqb (w .state) waitingState waits, named-slot, le-leb 1 (w .position .queue) (omega arith), le-ltb slot slotCount h) (simp (all-cons, and-false))
+
+      pub task-waiting : waitingTaskTests (queueAt s slot) slot t w ≡ taskTests s t w
+      unfolding soundTask
+      task-waiting = rw (eq-eqb (w .state) waitingState waits, named-slot, not-none _ _ e)
+
+module _ (q : Queue) (slot t : ℕ) (w : Task) {zeros zeros-after own live free : Bool} where
+  pub waiting-tests : slot < slotCount → w .position .queue ≡ slot + 1 → zeros ≡ allZero (w .reserved) → zeros-after ≡ allZero (w .reservedAfter)
+      → own ≡ eqb (shareOfSlot slot) (shareOfTask t) → live ≡ isLive q → free ≡ isOpen q
+      → ((leb 1 (w .priority) && zeros && zeros-after) && (live && (own || free) && eqb (w .status) WAITING && eqb (w .messageLength) 0) && ltb (w .position .rank) (q .waiters))
+      ≡ waitingTaskTests q slot t w
+  unfolding taskRules waitingTaskRules
+  waiting-tests lt named z a o l f =
+      rw (z, a, o, l, f, lt-ltb slot slotCount lt, le-leb 1 (w .position .queue) (omega arith)) (simp (all-cons, all-nil, and-true, and-assoc))

@@ -1,39 +1,29 @@
 -- The order of waiters by priority, as the code tests it. Assumes nothing.
-use Prim.Native.Nat.{ℕ, zero, suc, _+_, _-_, _%_, _≤_, _<_}
+use Prim.Native.Nat.{ℕ, zero, suc, _+_, _-_, _≤_, _<_}
 use native.Mathlib.Omega.{arith}
 use mathlib.Core.Path.{_≡_, refl, sym, ap, subst, _∙_}
-use mathlib.Core.Bool.{Bool, true, false}
+use mathlib.Core.Bool.{Bool, true, false, _&&_, true≢false}
 use mathlib.Core.Logic.{⊎-elim}
-use mathlib.Core.List.{List, [], _∷_}
+use mathlib.Core.List.{List}
 use lib.ListN.{length, getD, set}
 use lib.Seq.{getD-set-same, getD-set-other}
 use borrow.Author.Tests.{eqb-true, eq-eqb, ltb-true, lt-ltb, leb-true, le-leb}
-use Rattle.ranks.specs.Lists.{_implies_, mapWithIndex, countTrue}
-use Rattle.ranks.specs.Position.{Position, noQueue, inQueue}
+use Rattle.ranks.specs.Lists.{_implies_}
+use Rattle.ranks.specs.Position.{Position}
 use Rattle.ranks.specs.Steps.{ranked}
 use Rattle.ranks.proofs.Tests.{either, both, and, lt-or-ge}
-use Rattle.ranks.proofs.Lists.{length-mapped, every-at, every-from}
+use Rattle.ranks.proofs.Lists.{every-at, every-from}
 use Rattle.ranks.proofs.Ranks.{Ranked}
-use Rattle.ranks.proofs.Ranked.{implied, implying, from-ranked, from-positions}
-use Rattle.ranks.proofs.ByRank.{counted}
-use Rattle.records.specs.Records.{Queue, Task, State, freshTask, hasPriority}
+use Rattle.ranks.proofs.Ranked.{implied, implying}
+use Rattle.ranks.proofs.ByRank.{held-bound}
+use Rattle.records.specs.Layout.{taskCount, taskWidth}
+use Rattle.records.specs.Records.{Queue, Task, State, freshTask, isLive, hasPriority}
 use Rattle.records.specs.Bytes.{decodeTask, decodeTasks}
 use Rattle.records.proofs.Writing.{length-decoded}
 use Rattle.specification.specs.Sound.{byPriority}
+use Rattle.specification.proofs.SoundFacts.{rank-each}
 use Rattle.soundness.specs.Parts.{onlyTasks, taskPositions, queueRanked, queueInOrder, OneAtRank, PrioritiesAtRanks}
 use Rattle.soundness.proofs.RecordTests.{task-positions}
-
--- a queue has at most as many ranks as there are records
-pub ranks-fit : (slot k : ℕ) (ps : List Position) → ranked slot k ps ≡ true → k ≤ length ps
-unfolding countTrue
-ranks-fit slot k ps e =
-    let as-many = counted {position = λ (p : Position). p} {a = noQueue} {xs = ps} (record { long = refl; ranks = from-ranked slot k ps e }) in
-    omega (arith, as-many, count-bound (mapWithIndex (λ j p. inQueue slot p) ps), length-mapped (λ j p. inQueue slot p) ps)
-  where
-    count-bound : (bs : List Bool) → countTrue bs ≤ length bs
-    count-bound [] = omega arith
-    count-bound (true ∷ bs) = let ih : countTrue bs ≤ length bs = count-bound bs in omega arith
-    count-bound (false ∷ bs) = let ih : countTrue bs ≤ length bs = count-bound bs in omega arith
 
 -- ---- The tasks of a queue
 
@@ -41,17 +31,20 @@ module _ (t : List ℕ) where
   abbrev W : ℕ → Task
   W j = getD (decodeTasks t) j (freshTask 1)
 
-  size : length (decodeTasks t) ≡ 32
-  size = length-decoded decodeTask 32 136 t
+  size : length (decodeTasks t) ≡ taskCount
+  size = length-decoded decodeTask taskCount taskWidth t
 
-  pub waiters-ranked : (slot n : ℕ) → ranked slot n (taskPositions t) ≡ true → Ranked 32 (λ j. W j .position) slot n
+  pub waiters-ranked : (slot n : ℕ) → ranked slot n (taskPositions t) ≡ true → Ranked taskCount (λ j. W j .position) slot n
   waiters-ranked slot n is =
-      subst (λ (k : ℕ). Ranked k (λ j. W j .position) slot n) size
-      (from-positions (λ (w : Task). w .position) (decodeTasks t) (freshTask 1) slot n (subst (λ (ps : List Position). ranked slot n ps ≡ true) (task-positions t) is))
+      rank-each (λ (w : Task). w .position) (decodeTasks t) (freshTask 1) size slot n (subst (λ (ps : List Position). ranked slot n ps ≡ true) (task-positions t) is)
+
+  -- at most all tasks wait in a queue
+  pub ranks-fit : (slot n : ℕ) → ranked slot n (taskPositions t) ≡ true → n ≤ taskCount
+  ranks-fit slot n is = held-bound {position = λ (w : Task). w .position} {a = freshTask 1} {xs = decodeTasks t} (record { long = size; ranks = waiters-ranked slot n is })
 
   module _ (slot : ℕ) where
     -- every two that wait in the queue are in order
-    pub in-order : ((i j : ℕ) → i < 32 → j < 32 → W i .position .queue ≡ suc slot → W j .position .queue ≡ suc slot
+    pub in-order : ((i j : ℕ) → i < taskCount → j < taskCount → W i .position .queue ≡ suc slot → W j .position .queue ≡ suc slot
         → W i .position .rank < W j .position .rank → W i .priority ≤ W j .priority) → byPriority (onlyTasks t) slot ≡ true
     unfolding byPriority
     in-order h =
@@ -62,7 +55,7 @@ module _ (t : List ℕ) where
         le-leb _ _ (h i j (omega (arith, size)) (omega (arith, size)) (eqb-true _ _ qi) (eqb-true _ _ qj) (ltb-true _ _ lt))))))
 
     -- two that are not
-    pub out-of-order : (i j : ℕ) → i < 32 → j < 32 → W i .position .queue ≡ suc slot → W j .position .queue ≡ suc slot
+    pub out-of-order : (i j : ℕ) → i < taskCount → j < taskCount → W i .position .queue ≡ suc slot → W j .position .queue ≡ suc slot
         → W i .position .rank < W j .position .rank → W j .priority < W i .priority → byPriority (onlyTasks t) slot ≡ false
     unfolding byPriority
     out-of-order i j hi hj qi qj lt worse = ⊎-elim (λ is. absurd (wrong is)) (λ f. f) (either (byPriority (onlyTasks t) slot))
@@ -76,7 +69,7 @@ module _ (t : List ℕ) where
     -- ---- Priorities by rank
 
     module _ (one : OneAtRank slot (decodeTasks t)) (k : ℕ) (l : List ℕ) (noted : PrioritiesAtRanks slot k (decodeTasks t) l) where
-      pub note-one : k < 32 → W k .position .queue ≡ suc slot → W k .position .rank < length l
+      pub note-one : k < taskCount → W k .position .queue ≡ suc slot → W k .position .rank < length l
           → PrioritiesAtRanks slot (k + 1) (decodeTasks t) (set l (W k .position .rank) (W k .priority))
       note-one hk here inside j hj q =
           ⊎-elim
@@ -94,7 +87,7 @@ module _ (t : List ℕ) where
           (λ (ge : k ≤ j). absurd (elsewhere (subst (λ (i : ℕ). W i .position .queue ≡ suc slot) (let x : j ≡ k = omega arith in x) q))) (lt-or-ge j k)
 
     module _ (n : ℕ) (is : ranked slot n (taskPositions t) ≡ true) where
-      r : Ranked 32 (λ j. W j .position) slot n
+      r : Ranked taskCount (λ j. W j .position) slot n
       r = waiters-ranked slot n is
 
       pub one-at-rank : OneAtRank slot (decodeTasks t)
@@ -103,7 +96,7 @@ module _ (t : List ℕ) where
       pub few-in-order : n < 2 → byPriority (onlyTasks t) slot ≡ true
       few-in-order h = in-order (λ i j hi hj qi qj lt. absurd (omega (arith, r .below j hj qj)))
 
-      module _ (l : List ℕ) (noted : PrioritiesAtRanks slot 32 (decodeTasks t) l) where
+      module _ (l : List ℕ) (noted : PrioritiesAtRanks slot taskCount (decodeTasks t) l) where
         -- no priority is below the one before it
         pub rising : ((k : ℕ) → 1 ≤ k → k < n → getD l (k - 1) 0 ≤ getD l k 0) → byPriority (onlyTasks t) slot ≡ true
         rising step =
@@ -130,15 +123,18 @@ module _ (t : List ℕ) where
 -- ---- One queue
 
 module _ (s : State) (slot : ℕ) (q : Queue) where
-  pub order-free : (q .live ≡ 1 → ⊥) → true ≡ queueInOrder s slot q
-  order-free ne = sym (implying _ _ (λ l. absurd (ne (eqb-true _ _ l))))
-
-  pub order-plain : (q .attributes % 2 ≡ 1 → ⊥) → true ≡ queueInOrder s slot q
-  order-plain ne = sym (implying _ _ (λ _. implying (hasPriority q) (byPriority s slot) (λ p. absurd (ne (eqb-true _ _ p)))))
-
-  pub order-tested : q .live ≡ 1 → q .attributes % 2 ≡ 1 → byPriority s slot ≡ queueInOrder s slot q
+  pub order-free : (isLive q && hasPriority q) ≡ false → true ≡ queueInOrder s slot q
   unfolding _implies_
-  order-tested l p = rw (eq-eqb (q .live) 1 l, eq-eqb (q .attributes % 2) 1 p)
+  order-free = go (isLive q) (hasPriority q) (byPriority s slot)
+    where
+      go : (a b c : Bool) → (a && b) ≡ false → true ≡ (a implies (b implies c))
+      go true true c e = absurd (true≢false e)
+      go true false c e = refl
+      go false b c e = refl
+
+  pub order-tested : (isLive q && hasPriority q) ≡ true → byPriority s slot ≡ queueInOrder s slot q
+  unfolding _implies_
+  order-tested e = let (l, p) = both (isLive q) (hasPriority q) e in rw (l, p)
 
 -- fewer than two waiters
 pub order-few : (t : List ℕ) (slot : ℕ) (q : Queue) → q .waiters < 2 → queueRanked false (taskPositions t) slot q ≡ true

@@ -19,7 +19,8 @@ use Rattle.ranks.proofs.Tests.{either, both, and, or, same?, lt-or-ge}
 use Rattle.ranks.proofs.Lists.{at-mapped, length-mapped, every-at, every-from, count-none, length-range, at-range}
 use Rattle.ranks.proofs.Ranked.{implying}
 use Rattle.ranks.proofs.Table.{length-records, at-records, position-slice}
-use Rattle.records.specs.Records.{Queue, freeQueue}
+use Rattle.records.specs.Layout.{slotCount, byteValues}
+use Rattle.records.specs.Records.{Queue, freeQueue, isLive}
 use Rattle.soundness.specs.Parts.{positions, positionOf, held, belowCount, Among, queueRanked}
 use Rattle.soundness.proofs.Cases.{same-truth}
 
@@ -52,22 +53,22 @@ count-before (false ∷ bs) (suc i) h = count-before bs i (λ j lt. h (suc j) (o
 
 -- ---- Positions as numbers
 
-pub number-position : (q r : ℕ) → q < 256 → positionOf (q + 256 * r) ≡ record { queue = q; rank = r }
+pub number-position : (q r : ℕ) → q < byteValues → positionOf (q + byteValues * r) ≡ record { queue = q; rank = r }
 number-position q r h =
-    let x : (q + 256 * r) % 256 ≡ q = omega arith in
-    let y : (q + 256 * r) / 256 ≡ r = omega arith in
+    let x : (q + byteValues * r) % byteValues ≡ q = omega arith in
+    let y : (q + byteValues * r) / byteValues ≡ r = omega arith in
     λ j. record { queue = x j; rank = y j }
 
 -- a number is that of a rank of a queue exactly if the position that it stands for is there
-stands-number : (n slot rank : ℕ) → slot < 16 → eqb n (slot + 1 + 256 * rank) ≡ standsAt slot rank (positionOf n)
+stands-number : (n slot rank : ℕ) → slot < slotCount → eqb n (slot + 1 + byteValues * rank) ≡ standsAt slot rank (positionOf n)
 stands-number n slot rank h =
     same-truth _ _
-    (λ e. let x : n ≡ slot + 1 + 256 * rank = eqb-true _ _ e in and (eq-eqb (n % 256) (suc slot) (omega arith)) (eq-eqb (n / 256) rank (omega arith)))
+    (λ e. let x : n ≡ slot + 1 + byteValues * rank = eqb-true _ _ e in and (eq-eqb (n % byteValues) (suc slot) (omega arith)) (eq-eqb (n / byteValues) rank (omega arith)))
     (λ e.
-    let (a, b) = both (eqb (n % 256) (suc slot)) _ e in
-    let x : n % 256 ≡ suc slot = eqb-true _ _ a in
-    let y : n / 256 ≡ rank = eqb-true _ _ b in
-    eq-eqb n (slot + 1 + 256 * rank) (omega arith))
+    let (a, b) = both (eqb (n % byteValues) (suc slot)) _ e in
+    let x : n % byteValues ≡ suc slot = eqb-true _ _ a in
+    let y : n / byteValues ≡ rank = eqb-true _ _ b in
+    eq-eqb n (slot + 1 + byteValues * rank) (omega arith))
 
 -- which records stand at rank r
 abbrev pub stood : (slot : ℕ) → List Position → (r : ℕ) → List Bool
@@ -119,11 +120,11 @@ module _ (ps : List Position) (slot rank : ℕ) {from to : ℕ} (among : Among s
       }
 
   -- record k was read as a number
-  pub one-more-counted : (number : ℕ) {found k one wanted : ℕ} → Counted ps slot rank from to found k → k < to → slot < 16 → positionOf number ≡ getD ps k noQueue
-      → wanted ≡ slot + 1 + 256 * rank → one ≡ (if eqb number wanted then 1 else 0) → one ≤ 1 → Counted ps slot rank from to (found + one) (k + 1)
+  pub one-more-counted : (number : ℕ) {found k one wanted : ℕ} → Counted ps slot rank from to found k → k < to → slot < slotCount → positionOf number ≡ getD ps k noQueue
+      → wanted ≡ slot + 1 + byteValues * rank → one ≡ (if eqb number wanted then 1 else 0) → one ≤ 1 → Counted ps slot rank from to (found + one) (k + 1)
   one-more-counted number {found} {k} before h small read w said le =
       let lt : k < length ps = omega (arith, among .inside) in
-      let is : eqb number (slot + 1 + 256 * rank) ≡ getD (stood slot ps rank) k false =
+      let is : eqb number (slot + 1 + byteValues * rank) ≡ getD (stood slot ps rank) k false =
       stands-number number slot rank small ∙ ap (standsAt slot rank) read ∙ sym (at-mapped (λ j p. standsAt slot rank p) ps k noQueue false lt) in
       record {
         start = omega (arith, before .start);
@@ -184,7 +185,7 @@ ranks-wrong slot n ps r h ne =
 
 -- what is known of a queue that is looked at: its slot, its record, how much it holds
 pub record Visited (messages : Bool) (qs : List Queue) (ps : List Position) (slot n : ℕ) (q : Queue) : Type 0 where
-  pub inside : slot < 16
+  pub inside : slot < slotCount
   pub read : getD qs slot (freeQueue 0) ≡ q
   pub count : n ≡ held messages q
   pub low : every (λ j p. belowCount messages qs p) ps ≡ true
@@ -202,14 +203,14 @@ module _ {messages : Bool} {qs : List Queue} {ps : List Position} {slot n : ℕ}
   queue-ranked h = implying _ _ (λ _. subst (λ (k : ℕ). ranked slot k ps ≡ true) (v .count) (ranks-hold slot n ps rank-below h))
 
   -- a queue that is free or holds nothing
-  pub queue-skipped : (eqb (q .live) 1 && not (eqb n 0)) ≡ false → queueRanked messages ps slot q ≡ true
-  queue-skipped f =
+  pub queue-skipped : {live : Bool} → live ≡ isLive q → (live && not (eqb n 0)) ≡ false → queueRanked messages ps slot q ≡ true
+  queue-skipped e f =
       implying _ _
       (λ l.
-      let z : n ≡ 0 = eqb-true _ _ (not-false _ (subst (λ (b : Bool). b && not (eqb n 0) ≡ false) l f)) in
+      let z : n ≡ 0 = eqb-true _ _ (not-false _ (subst (λ (b : Bool). b && not (eqb n 0) ≡ false) (e ∙ l) f)) in
       subst (λ (k : ℕ). ranked slot k ps ≡ true) (v .count) (ranks-hold slot n ps rank-below (λ r lt. absurd (omega arith))))
 
-  pub queue-broken : (eqb (q .live) 1 && not (eqb n 0)) ≡ true → (r : ℕ) → r < n → (countTrue (stood slot ps r) ≡ 1 → ⊥) → queueRanked messages ps slot q ≡ false
+  pub queue-broken : {live : Bool} → live ≡ isLive q → (live && not (eqb n 0)) ≡ true → (r : ℕ) → r < n → (countTrue (stood slot ps r) ≡ 1 → ⊥) → queueRanked messages ps slot q ≡ false
   unfolding _implies_
-  queue-broken t r h ne =
-      rw (both (eqb (q .live) 1) (not (eqb n 0)) t .0) (subst (λ (k : ℕ). ranked slot k ps ≡ false) (v .count) (ranks-wrong slot n ps r h ne))
+  queue-broken {live} e t r h ne =
+      rw (sym e ∙ both live (not (eqb n 0)) t .0) (subst (λ (k : ℕ). ranked slot k ps ≡ false) (v .count) (ranks-wrong slot n ps r h ne))

@@ -3,7 +3,7 @@ use Prim.Native.Nat.{ℕ, suc, pred, _+_, _≤_, _<_}
 use native.Mathlib.Omega.{arith}
 use mathlib.Core.Path.{_≡_, refl, sym, ap, subst, _∙_}
 use mathlib.Core.Bool.{Bool, true, false, _&&_, not, true≢false}
-use mathlib.Core.Logic.{_⊎_, inl, inr, ⊎-elim}
+use mathlib.Core.Logic.{⊎-elim}
 use mathlib.Core.List.{List, [], map}
 use lib.Dec.{eqb}
 use lib.ListN.{length, getD, length-map}
@@ -15,14 +15,15 @@ use Rattle.ranks.specs.Steps.{ranked}
 use Rattle.ranks.proofs.Tests.{either, both, and, or-left, or-right}
 use Rattle.ranks.proofs.Lists.{at-mapped, mapped-cong, every-at, every-from}
 use Rattle.ranks.proofs.Ranked.{implied, from-ranked}
+use Rattle.records.specs.Layout.{slotCount, queueWidth, bufferCount, bufferWidth, poolSize, taskCount, taskWidth, tasksSize}
 use Rattle.records.specs.Split.{shareOfSlot, shareOfBuffer}
-use Rattle.records.specs.Records.{Queue, Buffer, freeQueue, freeBuffer, freshTask, isLive}
-use Rattle.records.specs.Bytes.{decodeQueue, decodeQueues, decodeBuffer, decodePool, decodeTask, decodeTasks}
+use Rattle.records.specs.Records.{State, Buffer, queueAt, freeQueue, freeBuffer, freshTask}
+use Rattle.records.specs.Bytes.{decodeQueue, decodeBuffer, decodePool, decodeTask, decodeTasks}
 use Rattle.records.proofs.Access.{at-map}
 use Rattle.records.proofs.Tabled.{slot-share-below, buffers-end, share-buffers}
 use Rattle.records.proofs.Writing.{length-decoded}
 use Rattle.specification.specs.Sound.{soundBuffer, soundTask}
-use Rattle.specification.proofs.Rules.{Unused, Used, buffer-rules, Ready, Waiting, task-rules}
+use Rattle.specification.proofs.Rules.{Unused, Used, buffer-rules, InLive, Owned, buffer-owner, task-owner}
 use Rattle.soundness.specs.Parts.{onlyQueues, positions, poolPositions, taskPositions, held, belowCount, partStart, partSize, Among, queueRanked}
 use Rattle.soundness.proofs.Ranks.{length-positions}
 
@@ -36,104 +37,93 @@ positions-decoded read pos place d same rs =
 
 pub pool-positions : (p : List ℕ) → poolPositions p ≡ mapWithIndex (λ j m. m .position) (decodePool p)
 unfolding decodeBuffer
-pool-positions p = positions-decoded decodeBuffer (λ m. m .position) 0 freeBuffer (λ r. refl) (records 64 128 p)
+pool-positions p = positions-decoded decodeBuffer (λ m. m .position) 0 freeBuffer (λ r. refl) (records bufferCount bufferWidth p)
 
 pub task-positions : (t : List ℕ) → taskPositions t ≡ mapWithIndex (λ j w. w .position) (decodeTasks t)
 unfolding decodeTask
-task-positions t = positions-decoded decodeTask (λ w. w .position) 1 (freshTask 1) (λ r. refl) (records 32 136 t)
+task-positions t = positions-decoded decodeTask (λ w. w .position) 1 (freshTask 1) (λ r. refl) (records taskCount taskWidth t)
 
-pub pool-shape : (p : List ℕ) → length p ≡ 8192 → Shape 128 0 64 (length p)
+pub pool-shape : (p : List ℕ) → length p ≡ poolSize → Shape bufferWidth 0 bufferCount (length p)
 pool-shape p e = record { inside = omega arith; whole = e }
 
-pub tasks-shape : (t : List ℕ) → length t ≡ 4352 → Shape 136 1 32 (length t)
+pub tasks-shape : (t : List ℕ) → length t ≡ tasksSize → Shape taskWidth 1 taskCount (length t)
 tasks-shape t e = record { inside = omega arith; whole = e }
 
 -- ---- A table of records with positions
 
--- the position is in the queue of a live slot
-pub record InLive (qs : List Queue) (p : Position) : Type 0 where
-  pub slot : ℕ
-  pub queue : p .queue ≡ suc slot
-  pub within16 : slot < 16
-  pub live : isLive (getD qs slot (freeQueue 0)) ≡ true
-
 -- a record that is as its rules say is in no queue, or in that of a live slot
-pub record Table {A : Type 0} (test : ℕ → A → Bool) (position : A → Position) (xs : List A) (d : A) (qs : List Queue) (ps : List Position) : Type 0 where
-  pub queues : length qs ≡ 16
+pub record Table {A : Type 0} (test : ℕ → A → Bool) (position : A → Position) (xs : List A) (d : A) (s : State) (ps : List Position) : Type 0 where
+  pub queues : length (s .queues) ≡ slotCount
   pub same : ps ≡ mapWithIndex (λ j x. position x) xs
   pub size : length ps ≡ length xs
-  pub owner : (j : ℕ) → j < length xs → test j (getD xs j d) ≡ true
-      → (position (getD xs j d) .queue ≡ 0) ⊎ InLive qs (position (getD xs j d))
+  pub owner : (j : ℕ) → test j (getD xs j d) ≡ true → Owned s (position (getD xs j d))
 
-module _ {A : Type 0} {test : ℕ → A → Bool} {position : A → Position} {xs : List A} {d : A} {qs : List Queue} {ps : List Position}
-    (table : Table test position xs d qs ps) (messages : Bool) where
+module _ {A : Type 0} {test : ℕ → A → Bool} {position : A → Position} {xs : List A} {d : A} {s : State} {ps : List Position}
+    (table : Table test position xs d s ps) (messages : Bool) where
   abbrev tests : ℕ → A → Bool
-  tests j x = test j x && belowCount messages qs (position x)
+  tests j x = test j x && belowCount messages (s .queues) (position x)
 
   at : (j : ℕ) → j < length xs → getD ps j noQueue ≡ position (getD xs j d)
   at j h = ap (λ (l : List Position). getD l j noQueue) (table .same) ∙ at-mapped (λ j x. position x) xs j d noQueue h
 
   -- ranks that each queue has exactly once are below its count
-  tests-pass : every test xs ≡ true → every (queueRanked messages ps) qs ≡ true → every tests xs ≡ true
+  tests-pass : every test xs ≡ true → every (queueRanked messages ps) (s .queues) ≡ true → every tests xs ≡ true
   tests-pass rules ranks = every-from tests xs d (λ j h. and (every-at test xs d rules j h) (low j h))
     where
-      low : (j : ℕ) → j < length xs → belowCount messages qs (position (getD xs j d)) ≡ true
+      low : (j : ℕ) → j < length xs → belowCount messages (s .queues) (position (getD xs j d)) ≡ true
       low j h =
           ⊎-elim (λ z. or-left _ (eq-eqb _ _ z))
-          (λ (w : InLive qs (position (getD xs j d))).
-          let n : ℕ = held messages (getD qs (w .slot) (freeQueue 0)) in
+          (λ (w : InLive s (position (getD xs j d))).
+          let n : ℕ = held messages (queueAt s (w .slot)) in
           let is : ranked (w .slot) n ps ≡ true =
-          implied (every-at (queueRanked messages ps) qs (freeQueue 0) ranks (w .slot) (omega (arith, table .queues, w .within16))) (w .live) in
+          implied (every-at (queueRanked messages ps) (s .queues) (freeQueue 0) ranks (w .slot) (omega (arith, table .queues, w .slotBelow))) (eq-eqb _ _ (w .live)) in
           let lt : getD ps j noQueue .rank < n = from-ranked (w .slot) n ps is .below j (omega (arith, table .size)) (ap (λ (p : Position). p .queue) (at j h) ∙ w .queue) in
-          let lt′ : position (getD xs j d) .rank < held messages (getD qs (pred (position (getD xs j d) .queue)) (freeQueue 0)) =
+          let lt′ : position (getD xs j d) .rank < held messages (getD (s .queues) (pred (position (getD xs j d) .queue)) (freeQueue 0)) =
           rw (ap pred (w .queue)) (subst (λ (p : Position). p .rank < n) (at j h) lt) in
           or-right (eqb (position (getD xs j d) .queue) 0) (lt-ltb _ _ lt′))
-          (table .owner j h (every-at test xs d rules j h))
+          (table .owner j (every-at test xs d rules j h))
 
   -- where a record fails, the table does
-  pub table-fails : {r : Bool} → r ≡ every tests xs → not r ≡ true → false ≡ (every test xs && every (queueRanked messages ps) qs)
+  pub table-fails : {r : Bool} → r ≡ every tests xs → not r ≡ true → false ≡ (every test xs && every (queueRanked messages ps) (s .queues))
   table-fails said e =
       ⊎-elim
-      (λ t. let (a, b) = both (every test xs) (every (queueRanked messages ps) qs) t in absurd (true≢false (sym (tests-pass a b) ∙ sym said ∙ not-true _ e)))
-      (λ f. sym f) (either (every test xs && every (queueRanked messages ps) qs))
+      (λ t. let (a, b) = both (every test xs) (every (queueRanked messages ps) (s .queues)) t in absurd (true≢false (sym (tests-pass a b) ∙ sym said ∙ not-true _ e)))
+      (λ f. sym f) (either (every test xs && every (queueRanked messages ps) (s .queues)))
 
   -- where all pass, their own rules hold, their ranks are below the counts, and the ranks decide
   module _ {r : Bool} (said : r ≡ every tests xs) (e : not r ≡ false) where
-    each : (j : ℕ) → j < length xs → (test j (getD xs j d) ≡ true) × (belowCount messages qs (position (getD xs j d)) ≡ true)
+    each : (j : ℕ) → j < length xs → (test j (getD xs j d) ≡ true) × (belowCount messages (s .queues) (position (getD xs j d)) ≡ true)
     each j h = both _ _ (every-at tests xs d (sym said ∙ not-false _ e) j h)
 
     pub rules-hold : every test xs ≡ true
     rules-hold = every-from test xs d (λ j h. each j h .0)
 
-    pub ranks-below : every (λ j p. belowCount messages qs p) ps ≡ true
+    pub ranks-below : every (λ j p. belowCount messages (s .queues) p) ps ≡ true
     ranks-below =
-        every-from (λ j p. belowCount messages qs p) ps noQueue
-        (λ j h. let lt : j < length xs = omega (arith, table .size) in subst (λ (p : Position). belowCount messages qs p ≡ true) (sym (at j lt)) (each j lt .1))
+        every-from (λ j p. belowCount messages (s .queues) p) ps noQueue
+        (λ j h. let lt : j < length xs = omega (arith, table .size) in subst (λ (p : Position). belowCount messages (s .queues) p ≡ true) (sym (at j lt)) (each j lt .1))
 
-    pub ranks-decide : {x : Bool} → x ≡ every (queueRanked messages ps) qs → x ≡ (every test xs && every (queueRanked messages ps) qs)
-    ranks-decide h = h ∙ sym (ap (λ (b : Bool). b && every (queueRanked messages ps) qs) rules-hold)
+    pub ranks-decide : {x : Bool} → x ≡ every (queueRanked messages ps) (s .queues) → x ≡ (every test xs && every (queueRanked messages ps) (s .queues))
+    ranks-decide h = h ∙ sym (ap (λ (b : Bool). b && every (queueRanked messages ps) (s .queues)) rules-hold)
 
 -- ---- The two tables
 
-module _ (q p : List ℕ) (e : length p ≡ 8192) where
-  size : length (decodePool p) ≡ 64
-  size = length-decoded decodeBuffer 64 128 p
+module _ (q p : List ℕ) (e : length p ≡ poolSize) where
+  size : length (decodePool p) ≡ bufferCount
+  size = length-decoded decodeBuffer bufferCount bufferWidth p
 
-  pub pool-table : Table (soundBuffer (onlyQueues q)) (λ m. m .position) (decodePool p) freeBuffer (decodeQueues q) (poolPositions p)
+  pub pool-table : Table (soundBuffer (onlyQueues q)) (λ m. m .position) (decodePool p) freeBuffer (onlyQueues q) (poolPositions p)
   pool-table =
       record {
-        queues = length-decoded decodeQueue 16 16 q;
+        queues = length-decoded decodeQueue slotCount queueWidth q;
         same = pool-positions p;
-        size = length-positions 128 0 64 p (pool-shape p e) ∙ sym size;
-        owner = λ b h s.
-            ⊎-elim (λ (u : Unused (getD (decodePool p) b freeBuffer)). inl (u .queue))
-            (λ (u : Used (onlyQueues q) b (getD (decodePool p) b freeBuffer)). inr (record { slot = u .slot; queue = u .queue; within16 = u .within16; live = eq-eqb _ _ (u .live) }))
-            (buffer-rules (onlyQueues q) b (getD (decodePool p) b freeBuffer) s);
+        size = length-positions bufferWidth 0 bufferCount p (pool-shape p e) ∙ sym size;
+        owner = λ b e. buffer-owner (onlyQueues q) b (getD (decodePool p) b freeBuffer) e;
       }
 
   -- the buffers of a queue are among those of its share
   module _ (sounds : every (soundBuffer (onlyQueues q)) (decodePool p) ≡ true) where
-    own-share : (slot j : ℕ) → j < 64 → inQueue slot (getD (poolPositions p) j noQueue) ≡ true → shareOfSlot slot ≡ shareOfBuffer j
+    own-share : (slot j : ℕ) → j < bufferCount → inQueue slot (getD (poolPositions p) j noQueue) ≡ true → shareOfSlot slot ≡ shareOfBuffer j
     own-share slot j h i =
         ⊎-elim (λ (u : Unused m). absurd (omega (arith, there, u .queue)))
         (λ (u : Used (onlyQueues q) j m). ap shareOfSlot (let y : slot ≡ u .slot = omega (arith, there, u .queue) in y) ∙ u .share)
@@ -145,36 +135,33 @@ module _ (q p : List ℕ) (e : length p ≡ 8192) where
         there : m .position .queue ≡ suc slot
         there = sym (ap (λ (x : Position). x .queue) (at pool-table true j (omega (arith, size)))) ∙ eqb-true _ _ i
 
-    in-part : (slot j : ℕ) → slot < 16 → j < 64 → inQueue slot (getD (poolPositions p) j noQueue) ≡ true
-        → (partStart true slot ≤ j) × (j < partStart true slot + partSize true 64 slot)
+    in-part : (slot j : ℕ) → slot < slotCount → j < bufferCount → inQueue slot (getD (poolPositions p) j noQueue) ≡ true
+        → (partStart true slot ≤ j) × (j < partStart true slot + partSize true bufferCount slot)
     in-part slot j h k i =
         let (x, y) = both _ _ (share-buffers (shareOfSlot slot) j (slot-share-below slot h) k ∙ eq-eqb _ _ (own-share slot j k i)) in
         (leb-true _ _ x, ltb-true _ _ y)
 
-    pub messages-among : (slot : ℕ) → slot < 16 → Among slot (partStart true slot) (partStart true slot + partSize true 64 slot) (poolPositions p)
+    pub messages-among : (slot : ℕ) → slot < slotCount → Among slot (partStart true slot) (partStart true slot + partSize true bufferCount slot) (poolPositions p)
     messages-among slot h =
-        let l = length-positions 128 0 64 p (pool-shape p e) in
+        let l = length-positions bufferWidth 0 bufferCount p (pool-shape p e) in
         record {
           inside = omega (arith, l, buffers-end (shareOfSlot slot) (slot-share-below slot h));
-          start = λ j lt i. let k : j < 64 = omega (arith, l) in in-part slot j h k i .0;
-          stop = λ j lt i. let k : j < 64 = omega (arith, l) in in-part slot j h k i .1;
+          start = λ j lt i. let k : j < bufferCount = omega (arith, l) in in-part slot j h k i .0;
+          stop = λ j lt i. let k : j < bufferCount = omega (arith, l) in in-part slot j h k i .1;
         }
 
-module _ (q t : List ℕ) (e : length t ≡ 4352) where
-  pub tasks-table : Table (soundTask (onlyQueues q)) (λ w. w .position) (decodeTasks t) (freshTask 1) (decodeQueues q) (taskPositions t)
+module _ (q t : List ℕ) (e : length t ≡ tasksSize) where
+  pub tasks-table : Table (soundTask (onlyQueues q)) (λ w. w .position) (decodeTasks t) (freshTask 1) (onlyQueues q) (taskPositions t)
   tasks-table =
       record {
-        queues = length-decoded decodeQueue 16 16 q;
+        queues = length-decoded decodeQueue slotCount queueWidth q;
         same = task-positions t;
-        size = length-positions 136 1 32 t (tasks-shape t e) ∙ sym (length-decoded decodeTask 32 136 t);
-        owner = λ i h s.
-            ⊎-elim (λ (r : Ready (getD (decodeTasks t) i (freshTask 1))). inl (r .queue))
-            (λ (w : Waiting (onlyQueues q) i (getD (decodeTasks t) i (freshTask 1))). inr (record { slot = w .slot; queue = w .queue; within16 = w .within16; live = eq-eqb _ _ (w .live) }))
-            (task-rules (onlyQueues q) i (getD (decodeTasks t) i (freshTask 1)) s);
+        size = length-positions taskWidth 1 taskCount t (tasks-shape t e) ∙ sym (length-decoded decodeTask taskCount taskWidth t);
+        owner = λ t′ e. task-owner (onlyQueues q) t′ (getD (decodeTasks t) t′ (freshTask 1)) e;
       }
 
   -- the waiters of a queue are among all tasks
-  pub waiters-among : (slot : ℕ) → slot < 16 → Among slot (partStart false slot) (partStart false slot + partSize false 32 slot) (taskPositions t)
+  pub waiters-among : (slot : ℕ) → slot < slotCount → Among slot (partStart false slot) (partStart false slot + partSize false taskCount slot) (taskPositions t)
   waiters-among slot h =
-      let l = length-positions 136 1 32 t (tasks-shape t e) in
+      let l = length-positions taskWidth 1 taskCount t (tasks-shape t e) in
       record { inside = omega (arith, l); start = λ j lt i. omega arith; stop = λ j lt i. omega (arith, l) }

@@ -13,6 +13,7 @@ use borrow.Author.Tests.{eq-eqb}
 use Rattle.ranks.specs.Lists.{allZero, sumOf}
 use Rattle.ranks.proofs.Lists.{zeros-cons, zeros-nil}
 use Rattle.ranks.specs.Table.{slice, byte}
+use Rattle.records.specs.Layout.{capacity, bufferWidth, bufferLength, bufferData}
 use Rattle.records.proofs.Writing.{all-four}
 use Rattle.records.proofs.ZeroBytes.{zeros-one, zeros-add, zeros-rest}
 
@@ -39,14 +40,14 @@ module _ (l : List ℕ) where
 
 -- ---- Parts of a buffer record
 
-module _ (r : List ℕ) (long : length r ≡ 128) where
+module _ (r : List ℕ) (long : length r ≡ bufferWidth) where
   -- "8-127 data" is what stands from byte 8 on
-  data-part : slice 8 120 r ≡ drop 8 r
+  data-part : slice bufferData capacity r ≡ drop bufferData r
   unfolding slice
-  data-part = take-all 120 (drop 8 r) (omega (arith, length-drop 8 r))
+  data-part = take-all capacity (drop bufferData r) (omega (arith, length-drop bufferData r))
 
   -- what stands after a message of m bytes
-  pub after-message : (m : ℕ) → allZero (drop (8 + m) r) ≡ allZero (drop m (slice 8 120 r))
+  pub after-message : (m : ℕ) → allZero (drop (bufferData + m) r) ≡ allZero (drop m (slice bufferData capacity r))
   after-message m = ap allZero (sym (ap (drop m) data-part ∙ drop-drop m 8 r))
 
   -- "3-7 zero"
@@ -54,7 +55,7 @@ module _ (r : List ℕ) (long : length r ≡ 128) where
   reserved-part = ap (λ (b : Bool). allZero (slice 3 4 r) && b) (zeros-one r 7 (omega arith)) ∙ zeros-add 3 4 1 r
 
   -- a record without an owner is zero if its other fields are
-  pub all-zero : byte 0 r ≡ 0 → allZero r ≡ (eqb (byte 1 r) 0 && (eqb (byte 2 r) 0 && (allZero (slice 3 5 r) && allZero (slice 8 120 r))))
+  pub all-zero : byte 0 r ≡ 0 → allZero r ≡ (eqb (byte 1 r) 0 && (eqb (byte bufferLength r) 0 && (allZero (slice 3 5 r) && allZero (slice bufferData capacity r))))
   all-zero e =
       ap allZero (drop-cons r 0 0 (omega arith)) ∙ zeros-cons (byte 0 r) (drop 1 r) ∙ ap (λ (b : Bool). b && allZero (drop 1 r)) (eq-eqb (byte 0 r) 0 e)
       ∙ ap allZero (drop-cons r 1 0 (omega arith)) ∙ zeros-cons (byte 1 r) (drop 2 r)

@@ -1,13 +1,14 @@
 -- What the parts of the search look at.
 use Rattle.ranks.specs.Prelude.{ℕ, suc, pred, _/_, _%_, _≤_, _<_, _≡_, Bool, true, false, List, [], length, getD, eqb, ltb, _&&_, _||_}
-use Rattle.ranks.specs.Lists.{if_then_else_, _implies_, mapWithIndex}
+use Rattle.ranks.specs.Lists.{if_then_else_, _implies_, mapWithIndex, allTrue}
 use Rattle.ranks.specs.Position.{Position, noQueue, inQueue}
 use Rattle.ranks.specs.Table.{records, positionIn}
 use Rattle.ranks.specs.Steps.{ranked}
+use Rattle.records.specs.Layout.{byteValues, bufferCount, bufferWidth, bufferPosition, taskCount, taskWidth, taskPosition}
 use Rattle.records.specs.Split.{shareOfSlot, firstBuffer, shareLimit}
 use Rattle.records.specs.Records.{State, Queue, Buffer, Task, freeQueue, freshTask, isLive, hasPriority}
 use Rattle.records.specs.Bytes.{decodeQueues, decodeTasks}
-use Rattle.specification.specs.Sound.{byPriority, soundBuffer, soundTask}
+use Rattle.specification.specs.Sound.{usedBufferRules, soundBuffer, byPriority, taskRules, waitingTaskRules, soundTask}
 
 -- The state that a part looks at: a rule of `Sound.antt` that asks nothing else of the state says the same of the whole.
 abbrev pub onlyQueues : List ℕ → State
@@ -23,10 +24,10 @@ abbrev pub positions : (place : ℕ) → List (List ℕ) → List Position
 positions place rs = mapWithIndex (λ j r. positionIn place r) rs
 
 abbrev pub poolPositions : List ℕ → List Position
-poolPositions pool = positions 0 (records 64 128 pool)
+poolPositions pool = positions bufferPosition (records bufferCount bufferWidth pool)
 
 abbrev pub taskPositions : List ℕ → List Position
-taskPositions tasks = positions 1 (records 32 136 tasks)
+taskPositions tasks = positions taskPosition (records taskCount taskWidth tasks)
 
 -- how many messages the queue holds, or how many tasks wait in it
 abbrev pub held : (messages : Bool) → Queue → ℕ
@@ -47,6 +48,13 @@ bufferTests s b m = soundBuffer s b m && belowCount true (s .queues) (m .positio
 abbrev pub taskTests : State → (t : ℕ) → Task → Bool
 taskTests s t w = soundTask s t w && belowCount false (s .queues) (w .position)
 
+-- the same of a buffer that belongs to queue `q` in the slot, and of a task that names it
+abbrev pub usedBufferTests : Queue → (slot b : ℕ) → Buffer → Bool
+usedBufferTests q slot b m = allTrue (usedBufferRules q slot b m) && ltb (m .position .rank) (q .pending)
+
+abbrev pub waitingTaskTests : Queue → (slot t : ℕ) → Task → Bool
+waitingTaskTests q slot t w = allTrue (taskRules w) && allTrue (waitingTaskRules q slot t w) && ltb (w .position .rank) (q .waiters)
+
 -- the first record that can be in the queue of the slot, and how many can be from there on: its share's buffers, or every task
 abbrev pub partStart : (messages : Bool) (slot : ℕ) → ℕ
 partStart messages slot = if messages then firstBuffer (shareOfSlot slot) else 0
@@ -62,7 +70,7 @@ pub record Among (slot from to : ℕ) (ps : List Position) : Type 0 where
 
 -- the position that is the number queue + 256 x rank
 abbrev pub positionOf : ℕ → Position
-positionOf n = record { queue = n % 256; rank = n / 256 }
+positionOf n = record { queue = n % byteValues; rank = n / byteValues }
 
 -- ---- Priorities
 
@@ -72,7 +80,7 @@ queueInOrder s slot q = isLive q implies (hasPriority q implies byPriority s slo
 
 -- no two of the tasks that wait in the queue of the slot have the same rank
 abbrev pub OneAtRank : (slot : ℕ) → List Task → Type 0
-OneAtRank slot ts = (i j : ℕ) → i < 32 → j < 32 → getD ts i (freshTask 1) .position .queue ≡ suc slot → getD ts j (freshTask 1) .position .queue ≡ suc slot
+OneAtRank slot ts = (i j : ℕ) → i < taskCount → j < taskCount → getD ts i (freshTask 1) .position .queue ≡ suc slot → getD ts j (freshTask 1) .position .queue ≡ suc slot
     → getD ts i (freshTask 1) .position .rank ≡ getD ts j (freshTask 1) .position .rank → i ≡ j
 
 -- at the rank of each of the first k tasks, if it waits in the queue of the slot, stands its priority

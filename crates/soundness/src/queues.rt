@@ -4,12 +4,17 @@ ghost use mathlib.Core.Bool.{true};
 ghost use Prim.Native.Nat.{_*_, _≤_, _<_};
 ghost use lib.ListN.{length};
 ghost use Rattle.ranks.specs.Lists.{allTrue, allZero, every};
-ghost use Rattle.ranks.specs.Table.{slice};
-ghost use Rattle.records.specs.Bytes.{decodeQueue, decodeQueues};
+ghost use Rattle.records.specs.Layout.{slotCount, queuesSize, byteValues};
+ghost use Rattle.records.specs.Bytes.{decodeQueues, decodeQueueAt};
 ghost use Rattle.specification.specs.Sound.{liveQueueRules, freeQueueRules, soundQueue, limitIn, limits, soundLimits};
 ghost use Rattle.soundness.specs.Parts.{onlyQueues};
 use records::bytes::wide;
+use records::layout::SHARE_COUNT;
+use records::layout::SLOT_COUNT;
 use records::queue::QueueRecord;
+use records::queue::attributes_allowed;
+use records::queue::limit_allowed;
+use records::queue::max_size_allowed;
 use records::queue::read_queue;
 use records::shares::share_limit;
 use records::shares::share_of_slot;
@@ -20,13 +25,13 @@ fn reserved_zero(reserved: [u8; 4]) -> bool
     (reserved[0] == 0) & (reserved[1] == 0) & (reserved[2] == 0) & (reserved[3] == 0)
 }
 
-fn live_queue(q: QueueRecord) -> bool
+fn live_queue_sound(q: QueueRecord) -> bool
     ensures { λ r. ⌜ r ≡ allTrue (liveQueueRules q) ⌝ }
 {
     let s = q.reserved;
-    (q.attributes <= 3)
-        & ((1 <= q.limit) & (q.limit <= 16))
-        & ((1 <= q.maxSize) & (q.maxSize <= 120))
+    attributes_allowed(q.attributes as u32)
+        & limit_allowed(q.limit as u32)
+        & max_size_allowed(q.maxSize as u32)
         & (1 <= q.generation)
         & (1 <= q.name)
         & reserved_zero(s)
@@ -34,7 +39,7 @@ fn live_queue(q: QueueRecord) -> bool
         & ((q.pending == 0) | (q.waiters == 0))
 }
 
-fn free_queue(q: QueueRecord) -> bool
+fn free_queue_sound(q: QueueRecord) -> bool
     ensures { λ r. ⌜ r ≡ allTrue (freeQueueRules q) ⌝ }
 {
     let s = q.reserved;
@@ -51,19 +56,19 @@ fn free_queue(q: QueueRecord) -> bool
 fn queue_sound(q: QueueRecord) -> bool
     ensures { λ r. ⌜ r ≡ soundQueue q ⌝ }
 {
-    if q.live == 1 {
-        return live_queue(q);
+    if q.is_live() {
+        return live_queue_sound(q);
     }
-    free_queue(q)
+    free_queue_sound(q)
 }
 
 // Each queue record is as its rules say.
 pub fn queues_sound(queues: &[u8]) -> bool
-    requires { ⌜ length (now queues) ≡ 256 ⌝ }
+    requires { ⌜ length (now queues) ≡ queuesSize ⌝ }
     ensures { λ r. ⌜ r ≡ every (λ slot q. soundQueue q) (decodeQueues (now (queues .entry))) ⌝ }
 {
     let mut good = true;
-    'search: for slot in 0..16 {
+    'search: for slot in 0..SLOT_COUNT {
         if !queue_sound(read_queue(queues, slot)) {
             good = false;
             break 'search;
@@ -74,8 +79,8 @@ pub fn queues_sound(queues: &[u8]) -> bool
 
 // What the queue in the slot adds to the limits of the share. The limit of a free queue is 0.
 fn limit_in(queues: &[u8], slot: usize, share: usize) -> usize
-    requires { ⌜ (slot < 16) × ((length (now queues) ≡ 256) × (soundQueue (decodeQueue (slice (slot * 16) 16 (now queues))) ≡ true)) ⌝ }
-    ensures { λ r. ⌜ (r ≡ limitIn share slot (decodeQueue (slice (slot * 16) 16 (now (queues .entry))))) × (r < 256) ⌝ }
+    requires { ⌜ (slot < slotCount) × ((length (now queues) ≡ queuesSize) × (soundQueue (decodeQueueAt slot (now queues)) ≡ true)) ⌝ }
+    ensures { λ r. ⌜ (r ≡ limitIn share slot (decodeQueueAt slot (now (queues .entry)))) × (r < byteValues) ⌝ }
 {
     if share_of_slot(slot) != share {
         return 0;
@@ -86,12 +91,12 @@ fn limit_in(queues: &[u8], slot: usize, share: usize) -> usize
 
 // The sum of the limits of the share's live queues.
 pub fn share_limits(queues: &[u8], share: usize) -> usize
-    requires { ⌜ (length (now queues) ≡ 256) × (every (λ slot q. soundQueue q) (decodeQueues (now queues)) ≡ true) ⌝ }
-    ensures { λ r. ⌜ (r ≡ limits (onlyQueues (now (queues .entry))) share) × (r ≤ 4080) ⌝ }
+    requires { ⌜ (length (now queues) ≡ queuesSize) × (every (λ slot q. soundQueue q) (decodeQueues (now queues)) ≡ true) ⌝ }
+    ensures { λ r. ⌜ (r ≡ limits (onlyQueues (now (queues .entry))) share) × (r ≤ slotCount * 255) ⌝ }
 {
     let mut sum = 0;
     let mut slot = 0;
-    while slot < 16 {
+    while slot < SLOT_COUNT {
         sum += limit_in(queues, slot, share);
         slot += 1;
     }
@@ -100,11 +105,11 @@ pub fn share_limits(queues: &[u8], share: usize) -> usize
 
 // In each share the limits are at most what it has.
 pub fn limits_sound(queues: &[u8]) -> bool
-    requires { ⌜ (length (now queues) ≡ 256) × (every (λ slot q. soundQueue q) (decodeQueues (now queues)) ≡ true) ⌝ }
+    requires { ⌜ (length (now queues) ≡ queuesSize) × (every (λ slot q. soundQueue q) (decodeQueues (now queues)) ≡ true) ⌝ }
     ensures { λ r. ⌜ r ≡ soundLimits (onlyQueues (now (queues .entry))) ⌝ }
 {
     let mut good = true;
-    'search: for share in 0..4 {
+    'search: for share in 0..SHARE_COUNT {
         if share_limit(share) < share_limits(queues, share) {
             good = false;
             break 'search;

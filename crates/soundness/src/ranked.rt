@@ -5,9 +5,12 @@ ghost use Prim.Native.Nat.{ℕ, _+_, _*_, _≤_, _<_};
 ghost use lib.ListN.{length};
 ghost use Rattle.ranks.specs.Lists.{if_then_else_, every};
 ghost use Rattle.ranks.specs.Table.{records, positionIn, Shape};
+ghost use Rattle.records.specs.Layout.{slotCount, queuesSize, byteValues};
 ghost use Rattle.records.specs.Bytes.{decodeQueues};
 ghost use Rattle.soundness.specs.Parts.{positions, positionOf, held, belowCount, partStart, partSize, Among, queueRanked};
 use records::bytes::wide;
+use records::layout::BYTE_VALUES;
+use records::layout::SLOT_COUNT;
 use records::queue::QueueRecord;
 use records::queue::read_queue;
 use records::shares::first_buffer;
@@ -16,7 +19,7 @@ use records::shares::share_of_slot;
 
 // How many messages the queue holds, or how many tasks wait in it.
 fn held(q: QueueRecord, messages: bool) -> u16
-    ensures { λ r. ⌜ (r ≡ held messages q) × (r < 256) ⌝ }
+    ensures { λ r. ⌜ (r ≡ held messages q) × (r < byteValues) ⌝ }
 {
     if messages {
         return q.pending as u16;
@@ -26,7 +29,7 @@ fn held(q: QueueRecord, messages: bool) -> u16
 
 // The first record that can be in the queue of the slot: the first buffer of its share, or the first task.
 fn part_start(slot: usize, messages: bool) -> usize
-    requires { ⌜ slot < 16 ⌝ }
+    requires { ⌜ slot < slotCount ⌝ }
     ensures { λ r. ⌜ r ≡ partStart messages slot ⌝ }
 {
     if messages {
@@ -37,7 +40,7 @@ fn part_start(slot: usize, messages: bool) -> usize
 
 // How many records from there on can be in the queue: the buffers of its share, or all of the count.
 fn part_size(slot: usize, messages: bool, count: usize) -> usize
-    requires { ⌜ slot < 16 ⌝ }
+    requires { ⌜ slot < slotCount ⌝ }
     ensures { λ r. ⌜ r ≡ partSize messages count slot ⌝ }
 {
     if messages {
@@ -53,15 +56,15 @@ fn read_number(t: &[u8], at: usize) -> u16
 {
     let queue = wide(t[at]);
     let rank = wide(t[at + 1]);
-    (queue + 256 * rank) as u16
+    (queue + BYTE_VALUES * rank) as u16
 }
 
 // The number of the position at the rank of the queue in the slot.
 fn number_at(slot: usize, rank: u16) -> u16
-    requires { ⌜ (slot < 16) × (rank < 256) ⌝ }
-    ensures { λ r. ⌜ r ≡ slot + 1 + 256 * rank ⌝ }
+    requires { ⌜ (slot < slotCount) × (rank < byteValues) ⌝ }
+    ensures { λ r. ⌜ r ≡ slot + 1 + byteValues * rank ⌝ }
 {
-    (slot + 1) as u16 + 256 * rank
+    (slot + 1) as u16 + BYTE_VALUES as u16 * rank
 }
 
 fn one(b: bool) -> u16
@@ -81,16 +84,16 @@ pub fn every_ranked(
     count: usize,
     messages: bool,
 ) -> bool
-    requires { ⌜ (length (now queues) ≡ 256) × (Shape stride place count (length (now t)) × ((count ≤ 64)
+    requires { ⌜ (length (now queues) ≡ queuesSize) × (Shape stride place count (length (now t)) × ((count < byteValues)
         × ((every (λ j p. belowCount messages (decodeQueues (now queues)) p) (positions place (records count stride (now t))) ≡ true)
-        × ((slot : ℕ) → slot < 16 → Among slot (partStart messages slot) (partStart messages slot + partSize messages count slot) (positions place (records count stride (now t))))))) ⌝ }
+        × ((slot : ℕ) → slot < slotCount → Among slot (partStart messages slot) (partStart messages slot + partSize messages count slot) (positions place (records count stride (now t))))))) ⌝ }
     ensures { λ r. ⌜ r ≡ every (queueRanked messages (positions place (records count stride (now (t .entry))))) (decodeQueues (now (queues .entry))) ⌝ }
 {
     let mut good = true;
-    'search: for slot in 0..16 {
+    'search: for slot in 0..SLOT_COUNT {
         let q = read_queue(queues, slot);
         let n = held(q, messages);
-        if (q.live == 1) & (n != 0) {
+        if q.is_live() & (n != 0) {
             let from = part_start(slot, messages);
             let to = from + part_size(slot, messages, count);
             'ranks: for rank in 0..n {

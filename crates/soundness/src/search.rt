@@ -1,6 +1,7 @@
 // The whole search, which ends at the first broken rule.
 ghost use mathlib.Core.Path.{_≡_};
 ghost use lib.ListN.{length};
+ghost use Rattle.records.specs.Layout.{queuesSize, poolSize, tasksSize};
 ghost use Rattle.records.specs.Bytes.{decode};
 ghost use Rattle.specification.specs.Sound.{sound};
 use crate::buffers::pool_sound;
@@ -11,7 +12,7 @@ use crate::tasks::tasks_sound;
 
 // The tables are sound.
 pub fn is_sound(queues: &[u8], pool: &[u8], tasks: &[u8]) -> bool
-    requires { ⌜ (length (now queues) ≡ 256) × ((length (now pool) ≡ 8192) × (length (now tasks) ≡ 4352)) ⌝ }
+    requires { ⌜ (length (now queues) ≡ queuesSize) × ((length (now pool) ≡ poolSize) × (length (now tasks) ≡ tasksSize)) ⌝ }
     ensures { λ r. ⌜ r ≡ sound (decode (record { queues = now (queues .entry); pool = now (pool .entry); tasks = now (tasks .entry) })) ⌝ }
 {
     if !queues_sound(queues) {

@@ -1,3 +1,4 @@
+pub mod Accepted
 pub mod CasesOnRecords
 pub mod OnRecords
 pub mod Refused

@@ -6,6 +6,7 @@ use mathlib.Core.Bool.{Bool, true, false}
 use mathlib.Core.List.{List, [], _∷_, _++_, map}
 use lib.Dec.{leb}
 use borrow.Author.Tests.{leb-true}
+use Rattle.records.specs.Status.{SUCCESSFUL}
 use Rattle.ranks.specs.Lists.{if_then_else_, allTrue}
 use Rattle.ranks.proofs.Lists.{holds, held}
 use Rattle.specification.specs.Answer.{Outcome, Refusal, refuse, refuseIfAny, firstStatus}
@@ -50,10 +51,6 @@ pub none-left : (rs rs′ : List Refusal) → None (rs ++ rs′) → None rs
 none-left [] rs′ n = tt
 none-left (r ∷ rs) rs′ n = (n .0, none-left rs rs′ (n .1))
 
-pub none-right : (rs rs′ : List Refusal) → None (rs ++ rs′) → None rs′
-none-right [] rs′ n = n
-none-right (r ∷ rs) rs′ n = none-right rs rs′ (n .1)
-
 -- ---- The first status
 
 -- every reason has a status that is not 0
@@ -74,7 +71,7 @@ none-holds (r ∷ rs) k e = go (r .holds) refl (none-holds rs (numbers .1))
     go false h later = (h, later (e ∙ rw h refl))
 
 -- where it is not 0, the outcome is the refusal with it
-pub refused-first : {S : Type 0} (s : S) (rs : List Refusal) (effect : Outcome S) (n : ℕ) → n ≡ firstStatus rs → (n ≡ 0 → ⊥) → refuse s n ≡ refuseIfAny s rs effect
+pub refused-first : {S : Type 0} (s : S) (rs : List Refusal) (effect : Outcome S) (n : ℕ) → n ≡ firstStatus rs → (n ≡ SUCCESSFUL → ⊥) → refuse s n ≡ refuseIfAny s rs effect
 unfolding firstStatus refuseIfAny
 refused-first s [] effect n e ne = absurd (ne e)
 refused-first s (r ∷ rs) effect n e ne = go (r .holds) refl (λ f. refused-first s rs effect n f ne)

@@ -1,17 +1,17 @@
 -- The rules of one record as facts. Assumes nothing.
-use Prim.Native.Nat.{ℕ, zero, suc, pred, _+_, _≤_, _<_}
+use Prim.Native.Nat.{ℕ, suc, pred, _≤_, _<_}
 use native.Mathlib.Omega.{arith}
-use mathlib.Core.Path.{_≡_, refl, sym, ap, _∙_, subst}
-use mathlib.Core.Bool.{Bool, true, false, _&&_, _||_}
-use mathlib.Core.Logic.{_⊎_, inl, inr}
-use mathlib.Core.List.{List, [], _∷_}
-use lib.Dec.{eqb, leb, ltb}
+use mathlib.Core.Path.{_≡_, refl, sym, ap, _∙_}
+use mathlib.Core.Bool.{Bool, true, false, _||_}
+use mathlib.Core.Logic.{_⊎_, inl, inr, ⊎-elim}
+use lib.Dec.{eqb, leb}
 use lib.ListN.{drop}
 use borrow.Author.Tests.{eqb-true, eqb-false, ltb-true, lt-ltb, eq-eqb, ne-eqb, leb-true, le-leb}
 use Rattle.ranks.specs.Lists.{allTrue, allZero, within}
+use Rattle.records.specs.Layout.{largestLimit, capacity, slotCount}
 use Rattle.records.specs.Split.{shareOfSlot, shareOfBuffer, shareOfTask}
 use Rattle.ranks.specs.Position.{Position}
-use Rattle.records.specs.Records.{Queue, Buffer, Task, State, queueAt, isLive, isOpen, isWaiting, sizeAllowed}
+use Rattle.records.specs.Records.{Queue, Buffer, Task, State, queueAt, isLive, isOpen, isWaiting, sizeAllowed, readyState, waitingState}
 use Rattle.specification.specs.Sound.{slotIn, liveQueueRules, freeQueueRules, soundQueue, freeBufferRules, usedBufferRules, soundBuffer, taskRules, readyTaskRules, waitingTaskRules, soundTask}
 use Rattle.records.specs.Status.{SUCCESSFUL, TIMEOUT, OBJECT-WAS-DELETED, WAITING}
 use Rattle.ranks.proofs.Tests.{both, and, or, or-left, or-right}
@@ -44,9 +44,9 @@ pub record Live (q : Queue) : Type 0 where
   pub live : q .live ≡ 1
   pub attributes : q .attributes ≤ 3
   pub limit-low : 1 ≤ q .limit
-  pub limit-high : q .limit ≤ 16
+  pub limit-high : q .limit ≤ largestLimit
   pub size-low : 1 ≤ q .maxSize
-  pub size-high : q .maxSize ≤ 120
+  pub size-high : q .maxSize ≤ capacity
   pub generation : 1 ≤ q .generation
   pub name : 1 ≤ q .name
   pub reserved : allZero (q .reserved) ≡ true
@@ -156,12 +156,15 @@ free-sound q f =
 
 pub record Unused (m : Buffer) : Type 0 where
   pub queue : m .position .queue ≡ 0
-  pub rules : allTrue (freeBufferRules m) ≡ true
+  pub rank : m .position .rank ≡ 0
+  pub messageLength : m .messageLength ≡ 0
+  pub reserved : allZero (m .reserved) ≡ true
+  pub bytes : allZero (m .bytes) ≡ true
 
 pub record Used (s : State) (b : ℕ) (m : Buffer) : Type 0 where
   pub slot : ℕ
   pub queue : m .position .queue ≡ suc slot
-  pub within16 : slot < 16
+  pub slotBelow : slot < slotCount
   pub live : queueAt s slot .live ≡ 1
   pub share : shareOfSlot slot ≡ shareOfBuffer b
   pub size : sizeAllowed (queueAt s slot) (m .messageLength) ≡ true
@@ -176,7 +179,7 @@ used-rules s b m ne e =
     record {
       slot = slotIn (m .position);
       queue = nonzero (m .position .queue) (omega arith);
-      within16 = ltb-true _ _ h1;
+      slotBelow = ltb-true _ _ h1;
       live = eqb-true _ _ h2;
       share = eqb-true _ _ h3;
       size = h4;
@@ -185,18 +188,20 @@ used-rules s b m ne e =
     }
 
 pub buffer-rules : (s : State) (b : ℕ) (m : Buffer) → soundBuffer s b m ≡ true → Unused m ⊎ Used s b m
-unfolding soundBuffer
+unfolding soundBuffer freeBufferRules
 buffer-rules s b m = go (eqb (m .position .queue) 0) refl
   where
     go : (t : Bool) → eqb (m .position .queue) 0 ≡ t
         → (elim t [ true ↦ allTrue (freeBufferRules m) | false ↦ allTrue (usedBufferRules (queueAt s (slotIn (m .position))) (slotIn (m .position)) b m) ]) ≡ true
         → Unused m ⊎ Used s b m
-    go true z e = inl (record { queue = eqb-true _ _ z; rules = e })
+    go true z e =
+        let (h1, (h2, (h3, (h4, _)))) = holds _ e in
+        inl (record { queue = eqb-true _ _ z; rank = eqb-true _ _ h1; messageLength = eqb-true _ _ h2; reserved = h3; bytes = h4 })
     go false z e = inr (used-rules s b m (eqb-false _ _ z) e)
 
 pub unused-sound : (s : State) (b : ℕ) (m : Buffer) → Unused m → soundBuffer s b m ≡ true
-unfolding soundBuffer
-unused-sound s b m u = rw (eq-eqb _ _ (u .queue)) (u .rules)
+unfolding soundBuffer freeBufferRules
+unused-sound s b m u = rw (eq-eqb _ _ (u .queue)) (held _ (eq-eqb _ _ (u .rank), (eq-eqb _ _ (u .messageLength), (u .reserved, (u .bytes, tt)))))
 
 pub used-sound : (s : State) (b : ℕ) (m : Buffer) → Used s b m → soundBuffer s b m ≡ true
 unfolding soundBuffer usedBufferRules
@@ -205,7 +210,7 @@ used-sound s b m u =
     let ne : eqb (m .position .queue) 0 ≡ false = ne-eqb _ _ (λ z. let z′ : suc (u .slot) ≡ 0 = sym (u .queue) ∙ z in omega arith) in
     rw (ne, e)
     (held _ (
-      lt-ltb _ _ (u .within16),
+      lt-ltb _ _ (u .slotBelow),
       (eq-eqb _ _ (u .live), (eq-eqb _ _ (u .share), (u .size, (u .reserved, (u .rest, tt))))),
     ))
 
@@ -213,25 +218,25 @@ used-sound s b m u =
 
 pub record Ready (w : Task) : Type 0 where
   pub rules : allTrue (taskRules w) ≡ true
-  pub state : w .state ≡ 0
+  pub state : w .state ≡ readyState
   pub queue : w .position .queue ≡ 0
   pub rank : w .position .rank ≡ 0
   pub ticksLeft : w .ticksLeft ≡ 0
   pub status : (eqb (w .status) SUCCESSFUL || eqb (w .status) TIMEOUT || eqb (w .status) OBJECT-WAS-DELETED) ≡ true
-  pub messageLength : w .messageLength ≤ 120
+  pub messageLength : w .messageLength ≤ capacity
 
 pub record Waiting (s : State) (t : ℕ) (w : Task) : Type 0 where
   pub rules : allTrue (taskRules w) ≡ true
-  pub state : w .state ≡ 1
+  pub state : w .state ≡ waitingState
   pub slot : ℕ
   pub queue : w .position .queue ≡ suc slot
-  pub within16 : slot < 16
+  pub slotBelow : slot < slotCount
   pub live : queueAt s slot .live ≡ 1
   pub access : (eqb (shareOfSlot slot) (shareOfTask t) || isOpen (queueAt s slot)) ≡ true
   pub status : w .status ≡ WAITING
   pub messageLength : w .messageLength ≡ 0
 
-waiting-rules : (s : State) (t : ℕ) (w : Task) → allTrue (taskRules w) ≡ true → w .state ≡ 1
+waiting-rules : (s : State) (t : ℕ) (w : Task) → allTrue (taskRules w) ≡ true → w .state ≡ waitingState
     → allTrue (waitingTaskRules (queueAt s (slotIn (w .position))) (slotIn (w .position)) t w) ≡ true → Waiting s t w
 unfolding waitingTaskRules
 waiting-rules s t w r z e =
@@ -242,7 +247,7 @@ waiting-rules s t w r z e =
       state = z;
       slot = slotIn (w .position);
       queue = nonzero (w .position .queue) q;
-      within16 = ltb-true _ _ h2;
+      slotBelow = ltb-true _ _ h2;
       live = eqb-true _ _ h3;
       access = h4;
       status = eqb-true _ _ h5;
@@ -276,7 +281,7 @@ task-rules s t w e = let (r, f) = both _ _ e in go (isWaiting w) refl r f
 pub ready-sound : (s : State) (t : ℕ) (w : Task) → Ready w → soundTask s t w ≡ true
 unfolding soundTask readyTaskRules
 ready-sound s t w r =
-    let ne : eqb (w .state) 1 ≡ false = ne-eqb _ _ (λ z. let z′ : 0 ≡ 1 = sym (r .state) ∙ z in omega arith) in
+    let ne : eqb (w .state) waitingState ≡ false = ne-eqb _ _ (λ z. let z′ : 0 ≡ 1 = sym (r .state) ∙ z in omega arith) in
     and (r .rules)
     (rw ne
     (held _ (
@@ -291,4 +296,25 @@ waiting-sound s t w r =
     let one : leb 1 (w .position .queue) ≡ true = le-leb 1 (w .position .queue) (let z = r .queue in omega arith) in
     and (r .rules)
     (rw (eq-eqb _ _ (r .state), e)
-    (held _ (one, (lt-ltb _ _ (r .within16), (eq-eqb _ _ (r .live), (r .access, (eq-eqb _ _ (r .status), (eq-eqb _ _ (r .messageLength), tt))))))))
+    (held _ (one, (lt-ltb _ _ (r .slotBelow), (eq-eqb _ _ (r .live), (r .access, (eq-eqb _ _ (r .status), (eq-eqb _ _ (r .messageLength), tt))))))))
+
+-- ---- The queue that a record is in
+
+-- the position is in the queue of a live slot
+pub record InLive (s : State) (p : Position) : Type 0 where
+  pub slot : ℕ
+  pub queue : p .queue ≡ suc slot
+  pub slotBelow : slot < slotCount
+  pub live : queueAt s slot .live ≡ 1
+
+-- a record that is as its rules say is in no queue, or in that of a live slot
+abbrev pub Owned : State → Position → Type 0
+Owned s p = (p .queue ≡ 0) ⊎ InLive s p
+
+pub buffer-owner : (s : State) (b : ℕ) (m : Buffer) → soundBuffer s b m ≡ true → Owned s (m .position)
+buffer-owner s b m e =
+    ⊎-elim (λ u. inl (u .queue)) (λ u. inr (record { slot = u .slot; queue = u .queue; slotBelow = u .slotBelow; live = u .live })) (buffer-rules s b m e)
+
+pub task-owner : (s : State) (t : ℕ) (w : Task) → soundTask s t w ≡ true → Owned s (w .position)
+task-owner s t w e =
+    ⊎-elim (λ r. inl (r .queue)) (λ v. inr (record { slot = v .slot; queue = v .queue; slotBelow = v .slotBelow; live = v .live })) (task-rules s t w e)

@@ -1,47 +1,57 @@
 -- Sound tables as facts about each record. Assumes nothing.
-use Prim.Native.Nat.{ℕ, zero, suc, pred, _+_, _%_, _≤_, _<_}
+use Prim.Native.Nat.{ℕ, suc, _%_, _≤_, _<_}
 use native.Mathlib.Nat.{zero-add}
 use native.Mathlib.Omega.{arith}
-use mathlib.Core.Path.{_≡_, refl, sym, ap, _∙_, subst}
-use mathlib.Core.Bool.{Bool, true, false, _&&_, _||_, false≢true}
-use mathlib.Core.Logic.{_⊎_, inl, inr, ⊎-elim}
-use mathlib.Core.List.{List, [], _∷_}
-use lib.Dec.{eqb, leb, ltb}
+use mathlib.Core.Path.{_≡_, sym, ap, _∙_, subst}
+use mathlib.Core.Bool.{true, false, false≢true}
+use mathlib.Core.Logic.{_⊎_, ⊎-elim}
+use mathlib.Core.List.{List}
+use lib.Dec.{eqb, leb}
 use lib.ListN.{length, getD}
-use borrow.Author.Tests.{eqb-true, eqb-false, ltb-true, lt-ltb, eq-eqb, ne-eqb, leb-true, le-leb}
+use borrow.Author.Tests.{eqb-true, ltb-true, lt-ltb, eq-eqb, leb-true, le-leb}
 use Rattle.ranks.specs.Lists.{allTrue, mapWithIndex, numbersFrom, _implies_}
+use Rattle.records.specs.Layout.{bufferCount, taskCount, slotCount}
 use Rattle.records.specs.Split.{shareCount, shareLimit}
-use Rattle.ranks.specs.Position.{Position, inQueue}
-use Rattle.records.specs.Records.{Queue, Buffer, Task, State, queueAt, bufferAt, taskAt, freeQueue, freeBuffer, freshTask, isLive, hasPriority}
+use Rattle.ranks.specs.Position.{Position}
+use Rattle.records.specs.Records.{Buffer, Task, State, queueAt, bufferAt, taskAt, freeQueue, freeBuffer, freshTask, isLive, hasPriority}
 use Rattle.ranks.specs.Steps.{ranked}
 use Rattle.specification.specs.Sound.{limits, soundQueue, soundLimits, soundBuffer, soundTask, soundRanks, byPriority, sound}
 use Rattle.ranks.proofs.Tests.{both, and}
 use Rattle.ranks.proofs.Lists.{every-at, every-from, length-range, at-range, holds, held}
 use Rattle.ranks.proofs.Ranks.{Ranked, nobody}
-use Rattle.specification.proofs.Rules.{Live, Free, queue-rules, buffer-rules, task-rules}
+use Rattle.specification.proofs.Rules.{Live, Free, queue-rules, InLive, Owned, buffer-owner, task-owner}
+use Rattle.ranks.proofs.ByRank.{RankedTable}
 use Rattle.ranks.proofs.Ranked.{implied, implying, from-positions, to-positions}
 
 -- the number of records of each table
 pub record Sized (s : State) : Type 0 where
-  pub queues : length (s .queues) ≡ 16
-  pub pool : length (s .pool) ≡ 64
-  pub tasks : length (s .tasks) ≡ 32
+  pub queues : length (s .queues) ≡ slotCount
+  pub pool : length (s .pool) ≡ bufferCount
+  pub tasks : length (s .tasks) ≡ taskCount
 
 -- priorities never fall as ranks rise
 abbrev pub Ordered : State → ℕ → Type 0
 Ordered s slot =
-    (i j : ℕ) → i < 32 → j < 32 → taskAt s i .position .queue ≡ suc slot → taskAt s j .position .queue ≡ suc slot
+    (i j : ℕ) → i < taskCount → j < taskCount → taskAt s i .position .queue ≡ suc slot → taskAt s j .position .queue ≡ suc slot
     → taskAt s i .position .rank < taskAt s j .position .rank → taskAt s i .priority ≤ taskAt s j .priority
 
 pub record SoundFacts (s : State) : Type 0 where
   pub sized : Sized s
-  pub queue : (i : ℕ) → i < 16 → soundQueue (queueAt s i) ≡ true
+  pub queue : (i : ℕ) → i < slotCount → soundQueue (queueAt s i) ≡ true
   pub limit : (p : ℕ) → p < shareCount → limits s p ≤ shareLimit p
-  pub buffer : (b : ℕ) → b < 64 → soundBuffer s b (bufferAt s b) ≡ true
-  pub messages : (i : ℕ) → i < 16 → Ranked 64 (λ b. bufferAt s b .position) i (queueAt s i .pending)
-  pub waiters : (i : ℕ) → i < 16 → Ranked 32 (λ t. taskAt s t .position) i (queueAt s i .waiters)
-  pub order : (i : ℕ) → i < 16 → hasPriority (queueAt s i) ≡ true → Ordered s i
-  pub task : (t : ℕ) → t < 32 → soundTask s t (taskAt s t) ≡ true
+  pub buffer : (b : ℕ) → b < bufferCount → soundBuffer s b (bufferAt s b) ≡ true
+  pub messages : (i : ℕ) → i < slotCount → Ranked bufferCount (λ b. bufferAt s b .position) i (queueAt s i .pending)
+  pub waiters : (i : ℕ) → i < slotCount → Ranked taskCount (λ t. taskAt s t .position) i (queueAt s i .waiters)
+  pub order : (i : ℕ) → i < slotCount → hasPriority (queueAt s i) ≡ true → Ordered s i
+  pub task : (t : ℕ) → t < taskCount → soundTask s t (taskAt s t) ≡ true
+
+-- the rule of ranks in a table of N records, as facts about them and back
+module _ {A : Type 0} (position : A → Position) (xs : List A) (d : A) {N : ℕ} (long : length xs ≡ N) (slot n : ℕ) where
+  pub rank-each : ranked slot n (mapWithIndex (λ j x. position x) xs) ≡ true → Ranked N (λ j. position (getD xs j d)) slot n
+  rank-each e = subst (λ (k : ℕ). Ranked k (λ j. position (getD xs j d)) slot n) long (from-positions position xs d slot n e)
+
+  rank-all : Ranked N (λ j. position (getD xs j d)) slot n → ranked slot n (mapWithIndex (λ j x. position x) xs) ≡ true
+  rank-all r = to-positions position xs d slot n (subst (λ (k : ℕ). Ranked k (λ j. position (getD xs j d)) slot n) (sym long) r)
 
 module _ (s : State) (z : Sized s) where
   ordered : (slot : ℕ) → byPriority s slot ≡ true → Ordered s slot
@@ -74,57 +84,50 @@ module _ (s : State) (z : Sized s) where
             λ p h.
             subst (λ (k : ℕ). limits s k ≤ shareLimit k) (at-range 0 shareCount p 0 (omega arith) ∙ zero-add p)
             (leb-true _ _ (every-at (λ i p. leb (limits s p) (shareLimit p)) (numbersFrom 0 shareCount) 0 lims p (omega (arith, length-range 0 shareCount))));
-        buffer = λ b h. every-at (λ b m. soundBuffer s b m) (s .pool) (freeBuffer) pool b (omega (arith, z .pool));
-        messages = λ i h. ⊎-elim (λ l. messages-of i l (rank ranks i h l)) (λ e. no-messages pool i e) (kind queues i h);
-        waiters = λ i h. ⊎-elim (λ l. waiters-of i l (rank ranks i h l)) (λ e. no-waiters tasks i e) (kind queues i h);
+        buffer = buffer-of pool;
+        messages =
+            λ i h.
+            ⊎-elim (λ l. rank-each (λ (m : Buffer). m .position) (s .pool) freeBuffer (z .pool) i (queueAt s i .pending) (holds _ (rank ranks i h l) .0))
+            (λ f. none-in bufferCount (λ b. bufferAt s b .position) i (queueAt s i .pending) f (f .pending) (λ b k. buffer-owner s b _ (buffer-of pool b k))) (kind queues i h);
+        waiters =
+            λ i h.
+            ⊎-elim (λ l. rank-each (λ (w : Task). w .position) (s .tasks) (freshTask 1) (z .tasks) i (queueAt s i .waiters) (holds _ (rank ranks i h l) .1 .0))
+            (λ f. none-in taskCount (λ t. taskAt s t .position) i (queueAt s i .waiters) f (f .waiters) (λ t k. task-owner s t _ (task-of tasks t k))) (kind queues i h);
         order =
             λ i h p.
             ⊎-elim (λ l. ordered i (implied (holds _ (rank ranks i h l) .1 .1 .0) p))
             (λ e. absurd (false≢true (sym (ap (λ (n : ℕ). eqb (n % 2) 1) (e .attributes)) ∙ p))) (kind queues i h);
-        task = λ t h. every-at (λ t w. soundTask s t w) (s .tasks) (freshTask 1) tasks t (omega (arith, z .tasks));
+        task = task-of tasks;
       }
     where
+      buffer-of : allTrue (mapWithIndex (λ b m. soundBuffer s b m) (s .pool)) ≡ true → (b : ℕ) → b < bufferCount → soundBuffer s b (bufferAt s b) ≡ true
+      buffer-of e b h = every-at (λ b m. soundBuffer s b m) (s .pool) freeBuffer e b (omega (arith, z .pool))
+
+      task-of : allTrue (mapWithIndex (λ t w. soundTask s t w) (s .tasks)) ≡ true → (t : ℕ) → t < taskCount → soundTask s t (taskAt s t) ≡ true
+      task-of e t h = every-at (λ t w. soundTask s t w) (s .tasks) (freshTask 1) e t (omega (arith, z .tasks))
+
       -- a queue is live or free
-      kind : allTrue (mapWithIndex (λ i q. soundQueue q) (s .queues)) ≡ true → (i : ℕ) → i < 16 → Live (queueAt s i) ⊎ Free (queueAt s i)
+      kind : allTrue (mapWithIndex (λ i q. soundQueue q) (s .queues)) ≡ true → (i : ℕ) → i < slotCount → Live (queueAt s i) ⊎ Free (queueAt s i)
       kind e i h = queue-rules _ (every-at (λ i q. soundQueue q) (s .queues) (freeQueue 0) e i (omega (arith, z .queues)))
 
-      rank : allTrue (mapWithIndex (λ i q. isLive q implies soundRanks s i q) (s .queues)) ≡ true → (i : ℕ) → i < 16 → Live (queueAt s i)
+      rank : allTrue (mapWithIndex (λ i q. isLive q implies soundRanks s i q) (s .queues)) ≡ true → (i : ℕ) → i < slotCount → Live (queueAt s i)
           → soundRanks s i (queueAt s i) ≡ true
       rank e i h l =
           implied (every-at (λ i q. isLive q implies soundRanks s i q) (s .queues) (freeQueue 0) e i (omega (arith, z .queues))) (eq-eqb _ _ (l .live))
 
-      messages-of : (i : ℕ) → Live (queueAt s i) → soundRanks s i (queueAt s i) ≡ true → Ranked 64 (λ b. bufferAt s b .position) i (queueAt s i .pending)
-      messages-of i l e =
-          subst (λ (k : ℕ). Ranked k (λ b. bufferAt s b .position) i (queueAt s i .pending)) (z .pool)
-          (from-positions (λ (m : Buffer). m .position) (s .pool) freeBuffer i (queueAt s i .pending) (holds _ e .0))
-
-      waiters-of : (i : ℕ) → Live (queueAt s i) → soundRanks s i (queueAt s i) ≡ true → Ranked 32 (λ t. taskAt s t .position) i (queueAt s i .waiters)
-      waiters-of i l e =
-          subst (λ (k : ℕ). Ranked k (λ t. taskAt s t .position) i (queueAt s i .waiters)) (z .tasks)
-          (from-positions (λ (w : Task). w .position) (s .tasks) (freshTask 1) i (queueAt s i .waiters) (holds _ e .1 .0))
-
       -- no record is in a free queue, if what names a queue names a live one
-      none-in : (N : ℕ) (P : ℕ → Position) (i n : ℕ) → Free (queueAt s i) → n ≡ 0 → ((j : ℕ) → j < N → P j .queue ≡ suc i → queueAt s i .live ≡ 1)
-          → Ranked N P i n
-      none-in N P i n f e live =
-          subst (λ (k : ℕ). Ranked N P i k) (sym e) (nobody N P i (λ j h q. let a = live j h q in let b = f .live in omega arith))
-
-      names-live : (i slot : ℕ) → suc slot ≡ suc i → queueAt s slot .live ≡ 1 → queueAt s i .live ≡ 1
-      names-live i slot e l = subst (λ (k : ℕ). queueAt s k .live ≡ 1) (let a : slot ≡ i = omega arith in a) l
-
-      no-messages : allTrue (mapWithIndex (λ b m. soundBuffer s b m) (s .pool)) ≡ true → (i : ℕ) → Free (queueAt s i)
-          → Ranked 64 (λ b. bufferAt s b .position) i (queueAt s i .pending)
-      no-messages e i f =
-          none-in 64 (λ b. bufferAt s b .position) i _ f (f .pending)
-          (λ b h q. ⊎-elim (λ u. absurd (let a = u .queue in omega arith)) (λ u. names-live i (u .slot) (sym (u .queue) ∙ q) (u .live))
-          (buffer-rules s b _ (every-at (λ b m. soundBuffer s b m) (s .pool) freeBuffer e b (omega (arith, z .pool)))))
-
-      no-waiters : allTrue (mapWithIndex (λ t w. soundTask s t w) (s .tasks)) ≡ true → (i : ℕ) → Free (queueAt s i)
-          → Ranked 32 (λ t. taskAt s t .position) i (queueAt s i .waiters)
-      no-waiters e i f =
-          none-in 32 (λ t. taskAt s t .position) i _ f (f .waiters)
-          (λ t h q. ⊎-elim (λ u. absurd (let a = u .queue in omega arith)) (λ u. names-live i (u .slot) (sym (u .queue) ∙ q) (u .live))
-          (task-rules s t _ (every-at (λ t w. soundTask s t w) (s .tasks) (freshTask 1) e t (omega (arith, z .tasks)))))
+      none-in : (N : ℕ) (P : ℕ → Position) (i n : ℕ) → Free (queueAt s i) → n ≡ 0 → ((j : ℕ) → j < N → Owned s (P j)) → Ranked N P i n
+      none-in N P i n f e owner =
+          subst (λ (k : ℕ). Ranked N P i k) (sym e)
+          (nobody N P i
+          (λ j h q.
+          ⊎-elim (λ z. omega arith)
+          (λ (w : InLive s (P j)).
+          let this : w .slot ≡ i = let a = w .queue in omega arith in
+          let a : queueAt s i .live ≡ 1 = subst (λ (k : ℕ). queueAt s k .live ≡ 1) this (w .live) in
+          let b = f .live in
+          omega arith)
+          (owner j h)))
 
 pub is-sound : (s : State) → SoundFacts s → sound s ≡ true
 unfolding sound soundLimits soundRanks
@@ -150,14 +153,20 @@ is-sound s g =
     z : Sized s
     z = g .sized
 
-    rank : (i : ℕ) → i < 16 → soundRanks s i (queueAt s i) ≡ true
+    rank : (i : ℕ) → i < slotCount → soundRanks s i (queueAt s i) ≡ true
     rank i h =
         held _ (
-          to-positions (λ (m : Buffer). m .position) (s .pool) freeBuffer i _
-              (subst (λ (k : ℕ). Ranked k (λ b. bufferAt s b .position) i (queueAt s i .pending)) (sym (z .pool)) (g .messages i h)),
+          rank-all (λ (m : Buffer). m .position) (s .pool) freeBuffer (z .pool) i (queueAt s i .pending) (g .messages i h),
           (
-            to-positions (λ (w : Task). w .position) (s .tasks) (freshTask 1) i _
-                (subst (λ (k : ℕ). Ranked k (λ b. taskAt s b .position) i (queueAt s i .waiters)) (sym (z .tasks)) (g .waiters i h)),
+            rank-all (λ (w : Task). w .position) (s .tasks) (freshTask 1) (z .tasks) i (queueAt s i .waiters) (g .waiters i h),
             (implying _ _ (λ p. orders s z i (g .order i h p)), tt),
           ),
         )
+
+-- the two tables of each queue's records
+module _ (s : State) (g : SoundFacts s) where
+  pub buffers-ranked : (i : ℕ) → i < slotCount → RankedTable (λ (m : Buffer). m .position) freeBuffer bufferCount i (queueAt s i .pending) (s .pool)
+  buffers-ranked i h = record { long = g .sized .pool; ranks = g .messages i h }
+
+  pub tasks-ranked : (i : ℕ) → i < slotCount → RankedTable (λ (w : Task). w .position) (freshTask 1) taskCount i (queueAt s i .waiters) (s .tasks)
+  tasks-ranked i h = record { long = g .sized .tasks; ranks = g .waiters i h }

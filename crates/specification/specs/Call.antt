@@ -1,6 +1,7 @@
 -- Document 01, "Runs": "A call is its directive, its caller and its arguments, with a message's bytes."
 use Rattle.ranks.specs.Prelude.{ℕ, Bool, true, List, [], _∷_, map, _&&_, ltb}
 use Rattle.ranks.specs.Lists.{allTrue}
+use Rattle.records.specs.Layout.{byteValues}
 
 -- what is done to a queue that is named by its id
 pub data Operation : Type 0 where
@@ -27,7 +28,7 @@ abbrev isWord : ℕ → Bool
 isWord n = ltb n 4294967296
 
 abbrev isByte : ℕ → Bool
-isByte n = ltb n 256
+isByte n = ltb n byteValues
 
 unfoldable pub operationInRange : Operation → Bool
 operationInRange delete = true

@@ -1,35 +1,32 @@
 -- Every answer from sound tables fits its record: status at most 16, value and mask of 32 bits. Assumes nothing.
-use Prim.Native.Nat.{ℕ, suc, _+_, _*_, _≤_, _<_, _^_}
+use Prim.Native.Nat.{ℕ, _≤_, _<_, _^_}
 use native.Mathlib.Nat.{pow-suc}
 use native.Mathlib.Omega.{arith}
-use mathlib.Core.Path.{_≡_, refl, sym, ap, _∙_, subst}
-use mathlib.Core.Bool.{Bool, true, false, not}
-use mathlib.Core.Logic.{_⊎_, inl, inr, ⊎-elim}
-use mathlib.Core.List.{List, [], _∷_, _++_}
-use lib.Dec.{eqb}
+use mathlib.Core.Path.{_≡_, refl, sym, _∙_, subst}
+use mathlib.Core.Bool.{Bool, true, false}
+use mathlib.Core.List.{List, [], _∷_}
 use lib.ListN.{length}
-use lib.Count.{ones}
-use borrow.Author.Tests.{leb-false, ltb-true}
+use borrow.Author.Tests.{ltb-true}
 use Rattle.ranks.specs.Lists.{if_then_else_, mapWithIndex, mask, countTrue}
 use Rattle.ranks.specs.Position.{inQueue}
 use Rattle.records.specs.Split.{shareOfTask}
-use Rattle.records.specs.Layout.{slotOf, idOf}
-use Rattle.records.specs.Records.{Buffer, Task, State, queueAt, bufferAt, taskAt}
+use Rattle.records.specs.Layout.{slotOf, idOf, slotCount, taskCount}
+use Rattle.records.specs.Records.{Task, State}
 use Rattle.records.specs.Bytes.{Tables, decode}
-use Rattle.specification.specs.Answer.{Answer, Outcome, Refusal, refuse, refuseIfAny}
+use Rattle.specification.specs.Answer.{Outcome}
 use Rattle.specification.specs.Call.{Operation, Call, delete, send, urgent, broadcast, receive, getNumberPending, flush, create, ident, onQueue, call, tick}
 use Rattle.specification.specs.Lookup.{hasWaiter, firstMessage, hasMessage, waitersOf}
-use Rattle.specification.specs.Step.{commonRefusals, ownRefusals, directiveRefusals, operationEffect, effect, step}
+use Rattle.specification.specs.Step.{directiveRefusals, operationEffect, effect, step}
 use Rattle.theorems.specs.SoundTables.{SoundTables}
 use Rattle.theorems.specs.Demands.{AnswerInRange}
-use Rattle.ranks.proofs.Lists.{length-mapped}
+use Rattle.ranks.proofs.Lists.{length-mapped, count-bound}
 use Rattle.specification.proofs.OnRecords.{callOnRecords}
-use Rattle.specification.proofs.Refused.{None, none-right, refused-with}
+use Rattle.specification.proofs.Refused.{refused-with}
+use Rattle.specification.proofs.Accepted.{Accepted, accepted-facts, creatable, name-found}
 use Rattle.specification.proofs.SoundFacts.{SoundFacts}
 use Rattle.theorems.proofs.Demand1.{call-statuses}
 use Rattle.theorems.proofs.Encodable.{Encodable}
-use Rattle.theorems.proofs.FieldsInRange.{count-bound, pending-bound, sound-in-range}
-use Rattle.theorems.proofs.SoundCall.{Accepted, accepted}
+use Rattle.theorems.proofs.FieldsInRange.{pending-bound, sound-in-range}
 use Rattle.theorems.proofs.SoundCreate.{slot-found}
 use Rattle.theorems.proofs.SoundSubmit.{slot-below}
 use Rattle.theorems.proofs.SoundSteps.{facts, fits, answer-is}
@@ -55,7 +52,7 @@ module _ (s : State) (g : SoundFacts s) where
   tasks-mask F =
       subst (λ (n : ℕ). mask (mapWithIndex F (s .tasks)) < 2 ^ n) (length-mapped F (s .tasks) ∙ g .sized .tasks) (mask-bound (mapWithIndex F (s .tasks)))
 
-  tasks-count : (F : ℕ → Task → Bool) → countTrue (mapWithIndex F (s .tasks)) ≤ 32
+  tasks-count : (F : ℕ → Task → Bool) → countTrue (mapWithIndex F (s .tasks)) ≤ taskCount
   tasks-count F = omega (arith, count-bound (mapWithIndex F (s .tasks)), length-mapped F (s .tasks), g .sized .tasks)
 
   module _ (f : Encodable s) where
@@ -75,7 +72,7 @@ module _ (s : State) (g : SoundFacts s) where
         }
     received slot false e caller ticks = record { status = omega arith; value = omega arith; woken = omega arith }
 
-    operation-answer : (caller slot : ℕ) → slot < 16 → (o : Operation) → AnswerInRange (operationEffect s caller slot o .answer)
+    operation-answer : (caller slot : ℕ) → slot < slotCount → (o : Operation) → AnswerInRange (operationEffect s caller slot o .answer)
     unfolding operationEffect Delete.effect Submit.effect Submit.delivered Submit.enqueued Broadcast.effect Receive.effect GetNumberPending.effect Flush.effect waitersOf
     operation-answer caller slot slot< delete = record { status = omega arith; value = omega arith; woken = tasks-mask _ }
     operation-answer caller slot slot< (send message) =
@@ -92,14 +89,14 @@ module _ (s : State) (g : SoundFacts s) where
     operation-answer caller slot slot< flush =
         record { status = omega arith; value = let h = pending-bound s g slot slot< in omega arith; woken = omega arith }
 
-    effect-answer : (c : Call) → None (ownRefusals s c) → AnswerInRange (effect s c .answer)
-    unfolding effect ownRefusals directiveRefusals Create.refusals Create.effect Ident.refusals Ident.effect Tick.effect idOf
-    effect-answer (call caller (create name limit maxSize attributes)) (_, (_, (_, (_, (free, _))))) =
-        let lt : Create.freeSlot s (shareOfTask caller) < 16 = leb-false _ _ free in
+    effect-answer : (c : Call) → Accepted s c → AnswerInRange (effect s c .answer)
+    unfolding effect Accepted directiveRefusals Create.effect Ident.effect Tick.effect idOf
+    effect-answer (call caller (create name limit maxSize attributes)) a =
+        let lt = creatable s (shareOfTask caller) name limit maxSize attributes (a .directive) .slotBelow in
         let h = slot-found s (g .sized) (shareOfTask caller) lt .2 in
         record { status = omega arith; value = omega arith; woken = omega arith }
-    effect-answer (call caller (ident name share)) (_, (_, (found, _))) =
-        let lt : Ident.named s caller name share < 16 = leb-false _ _ found in
+    effect-answer (call caller (ident name share)) a =
+        let lt = name-found s caller name share (a .directive) in
         let h = f .queues (Ident.named s caller name share) lt .generation in
         record { status = omega arith; value = omega arith; woken = omega arith }
     effect-answer (call caller (onQueue id o)) n = operation-answer caller (slotOf id) (slot-below id) o
@@ -114,4 +111,4 @@ answer-in-range t c st =
     subst AnswerInRange (sym (answer-is t st c))
     (refused-with (λ o. AnswerInRange (o .answer)) (decode t) _ _ (call-statuses (decode t) c)
     (λ n h. record { status = h .1; value = omega arith; woken = omega arith })
-    (λ n. effect-answer (decode t) (facts t st) (fits t st) c (none-right (commonRefusals (decode t) c) (ownRefusals (decode t) c) n)))
+    (λ n. effect-answer (decode t) (facts t st) (fits t st) c (accepted-facts (decode t) c n)))

@@ -10,6 +10,7 @@ use lib.Seq.{take-take, drop-drop}
 use borrow.Author.Tests.{ltb-true, leb-true}
 use Rattle.ranks.specs.Lists.{allTrue}
 use Rattle.ranks.specs.Table.{slice}
+use Rattle.records.specs.Layout.{queueWidth, bufferWidth, taskWidth}
 use Rattle.records.specs.Records.{State, fresh}
 use Rattle.records.specs.Bytes.{Tables, encode}
 use Rattle.specification.specs.Run.{freshTables}
@@ -60,9 +61,9 @@ module _ (s : State) (z : Sized s) (f : Encodable s) where
 
       go : (t : TableName) → (ltb (x .number) (countOf t) ≡ true) × (leb (x .place + n) (widthOf t) ≡ true)
           → slice (x .number * widthOf t + x .place) n (Rattle.specification.specs.Cases.tableOf (encode s) t) ≡ slice (x .place) n (recordBytes s t (x .number))
-      go queueTable (h, k) = slice-within _ 16 (x .place) n _ (leb-true _ _ k) ∙ ap (slice (x .place) n) (queue-bytes s z f (x .number) (ltb-true _ _ h))
-      go poolTable (h, k) = slice-within _ 128 (x .place) n _ (leb-true _ _ k) ∙ ap (slice (x .place) n) (buffer-bytes s z f (x .number) (ltb-true _ _ h))
-      go taskTable (h, k) = slice-within _ 136 (x .place) n _ (leb-true _ _ k) ∙ ap (slice (x .place) n) (task-bytes s z f (x .number) (ltb-true _ _ h))
+      go queueTable (h, k) = slice-within _ queueWidth (x .place) n _ (leb-true _ _ k) ∙ ap (slice (x .place) n) (queue-bytes s z f (x .number) (ltb-true _ _ h))
+      go poolTable (h, k) = slice-within _ bufferWidth (x .place) n _ (leb-true _ _ k) ∙ ap (slice (x .place) n) (buffer-bytes s z f (x .number) (ltb-true _ _ h))
+      go taskTable (h, k) = slice-within _ taskWidth (x .place) n _ (leb-true _ _ k) ∙ ap (slice (x .place) n) (task-bytes s z f (x .number) (ltb-true _ _ h))
 
 -- ---- The cases
 

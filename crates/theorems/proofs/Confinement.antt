@@ -4,13 +4,13 @@ use native.Mathlib.Omega.{arith}
 use mathlib.Core.Path.{_≡_, refl, sym, ap, _∙_}
 use mathlib.Core.Bool.{Bool, true, false, _&&_}
 use mathlib.Core.Logic.{_⊎_, inl, inr, ⊎-elim}
-use mathlib.Core.List.{List, [], _∷_, _++_}
+use mathlib.Core.List.{List, [], _∷_}
 use lib.Dec.{leb}
 use lib.ListN.{getD}
-use borrow.Author.Tests.{eqb-true, ltb-false, leb-false, not-true}
+use borrow.Author.Tests.{eqb-true, leb-false, not-true}
 use Rattle.ranks.specs.Lists.{if_then_else_, mapWithIndex, numbersFrom, within}
 use Rattle.ranks.specs.Position.{Position, noQueue}
-use Rattle.records.specs.Layout.{slotOf}
+use Rattle.records.specs.Layout.{slotOf, taskCount, slotCount}
 use Rattle.records.specs.Split.{shareOfSlot, shareOfTask}
 use Rattle.records.specs.Records.{Queue, Task, State, taskAt, freeQueue, freshTask}
 use Rattle.records.specs.Changes.{atIndex, withTicks, readyWith, withMessage}
@@ -21,12 +21,13 @@ use Rattle.specification.specs.Lookup.{firstWaiter, hasWaiter, firstMessage, ha
 use Rattle.specification.specs.Submit.{freeBufferOf, delivered, enqueued}
 use Rattle.specification.specs.Receive.{received, waitRank, waiting}
 use Rattle.specification.specs.Tick.{expires, isTimed, tickTask, tickTasks}
-use Rattle.specification.specs.Step.{commonRefusals, directiveRefusals, ownRefusals, operationEffect, effect}
+use Rattle.specification.specs.Step.{directiveRefusals, operationEffect, effect}
 use Rattle.theorems.specs.Noninterference.{confinedDirective, isConfined}
 use Rattle.ranks.proofs.Lists.{at-mapped}
 use Rattle.ranks.proofs.Ranks.{out-queue, in-queue}
+use Rattle.specification.proofs.Accepted.{Accepted, accepted-facts, creatable}
 use Rattle.specification.proofs.OnRecords.{callOnRecords}
-use Rattle.specification.proofs.Refused.{None, refused-or}
+use Rattle.specification.proofs.Refused.{refused-or}
 use Rattle.theorems.proofs.KeptQueues.{if-at, at-both}
 use Rattle.theorems.proofs.SoundCall.{call-sound}
 use Rattle.theorems.proofs.SoundCleared.{gone-cases}
@@ -47,7 +48,7 @@ module _ {x : ℕ} {s : State} (p : Confined x s) where
 
   -- the queue is not opened
   closed-at : (slot : ℕ) (f : Queue → Queue) → ((q : Queue) → q .attributes < 2 → f q .attributes < 2)
-      → (i : ℕ) → i < 16 → shareOfSlot i ≡ x → getD (mapWithIndex (atIndex slot f) (s .queues)) i (freeQueue 0) .attributes < 2
+      → (i : ℕ) → i < slotCount → shareOfSlot i ≡ x → getD (mapWithIndex (atIndex slot f) (s .queues)) i (freeQueue 0) .attributes < 2
   closed-at slot f k i h o =
       let c = p .confined .closed i h o in
       rw (at-mapped (atIndex slot f) (s .queues) i (freeQueue 0) (freeQueue 0) (omega (arith, p .facts .sized .queues)))
@@ -58,7 +59,7 @@ module _ {x : ℕ} {s : State} (p : Confined x s) where
   Stays w w′ = (slot : ℕ) → w′ .position .queue ≡ suc slot → (w .position .queue ≡ suc slot) ⊎ (shareOfSlot slot ≡ x)
 
   home-mapped : (F : ℕ → Task → Task) → ((t : ℕ) (w : Task) → Stays w (F t w))
-      → (t : ℕ) → t < 32 → shareOfTask t ≡ x → (slot : ℕ) → getD (mapWithIndex F (s .tasks)) t (freshTask 1) .position .queue ≡ suc slot → shareOfSlot slot ≡ x
+      → (t : ℕ) → t < taskCount → shareOfTask t ≡ x → (slot : ℕ) → getD (mapWithIndex F (s .tasks)) t (freshTask 1) .position .queue ≡ suc slot → shareOfSlot slot ≡ x
   home-mapped F k t h o slot q =
       ⊎-elim (λ a. p .confined .home t h o slot a) (λ a. a)
       (k t _ slot (rw (at-mapped F (s .tasks) t (freshTask 1) (freshTask 1) (omega (arith, p .facts .sized .tasks))) at q))
@@ -76,10 +77,10 @@ module _ {x : ℕ} {s : State} (p : Confined x s) where
         home = home-mapped _ (λ j w. if-at (Stays w) j t (f w) _ (λ _. gone w (f w) (nw w)) (λ _ k e. inl (out-queue t slot rank j (w .position) k e)));
       }
 
-  withoutWaiters-home : (slot : ℕ) (f : Task → Task) → ((w : Task) → f w .position ≡ noQueue) → (t : ℕ) → t < 32 → shareOfTask t ≡ x → (k : ℕ)
+  withoutWaiters-home : (slot : ℕ) (f : Task → Task) → ((w : Task) → f w .position ≡ noQueue) → (t : ℕ) → t < taskCount → shareOfTask t ≡ x → (k : ℕ)
       → getD (withoutWaiters slot f (s .tasks)) t (freshTask 1) .position .queue ≡ suc k → shareOfSlot k ≡ x
   unfolding withoutWaiters
-  withoutWaiters-home slot f nw = home-mapped _ (λ t w. gone-cases slot f nw (Stays w) w (λ _. gone w (f w) (nw w)) (λ _ k e. inl e))
+  withoutWaiters-home slot f nw = home-mapped _ (λ t w. gone-cases (λ w. w .position) slot f (Stays w) w (λ _. gone w (f w) (nw w)) (λ _ k e. inl e))
 
   create-confined : (slot name limit maxSize attributes : ℕ) → attributes < 2 → ConfinedRecords x (Create.effect s slot name limit maxSize attributes .after)
   unfolding Create.effect
@@ -148,7 +149,7 @@ tick-cases t w P leaves ticks stays = go (expires w) (isTimed w) refl
     go false true e = ticks
     go false false e = stays
 
-pub tickTask-confined : {x : ℕ} {s : State} → Confined x s → (t : ℕ) → t < 32 → Confined x (tickTask s t)
+pub tickTask-confined : {x : ℕ} {s : State} → Confined x s → (t : ℕ) → t < taskCount → Confined x (tickTask s t)
 unfolding tickTask
 tickTask-confined {x} {s} p t h =
     record {
@@ -162,7 +163,7 @@ tickTask-confined {x} {s} p t h =
           (p .confined);
     }
 
-tickTasks-confined : {x : ℕ} {s : State} (ts : List ℕ) → Below 32 ts → Confined x s → Confined x (tickTasks s ts)
+tickTasks-confined : {x : ℕ} {s : State} (ts : List ℕ) → Below taskCount ts → Confined x s → Confined x (tickTasks s ts)
 unfolding tickTasks
 tickTasks-confined [] b p = p
 tickTasks-confined (t ∷ ts) b p = tickTasks-confined ts (b .1) (tickTask-confined p t (b .0))
@@ -178,18 +179,19 @@ closed-attributes n e h = go (leb 2 n) refl e
     go false k f = leb-false _ _ k
 
 module _ {x : ℕ} {s : State} (p : Confined x s) where
-  effect-confined : (c : Call) → isConfined x c ≡ true → None (commonRefusals s c ++ ownRefusals s c) → ConfinedRecords x (effect s c .after)
-  unfolding effect isConfined confinedDirective commonRefusals ownRefusals directiveRefusals Create.refusals Ident.effect Tick.effect
-  effect-confined (call caller (create name limit maxSize attributes)) k (_, (_, (_, (a, _)))) =
-      create-confined p _ name limit maxSize attributes (closed-attributes attributes (not-true _ k) (ltb-false _ _ a))
+  effect-confined : (c : Call) → isConfined x c ≡ true → Accepted s c → ConfinedRecords x (effect s c .after)
+  unfolding effect isConfined confinedDirective Accepted directiveRefusals Ident.effect Tick.effect
+  effect-confined (call caller (create name limit maxSize attributes)) k a =
+      create-confined p _ name limit maxSize attributes
+      (closed-attributes attributes (not-true _ k) (creatable s (shareOfTask caller) name limit maxSize attributes (a .directive) .attributesHigh))
   effect-confined (call caller (ident name share)) k n = p .confined
   effect-confined (call caller (onQueue id operation)) k n = operation-confined p caller (slotOf id) (eqb-true _ _ k) operation
-  effect-confined tick k n = tickTasks-confined (numbersFrom 0 32) (below-range 32 0 32 (omega arith)) p .confined
+  effect-confined tick k n = tickTasks-confined (numbersFrom 0 taskCount) (below-range taskCount 0 taskCount (omega arith)) p .confined
 
   pub call-confined : (c : Call) → isConfined x c ≡ true → Confined x (callOnRecords s c .after)
   unfolding callOnRecords
   call-confined c k =
       record {
         facts = call-sound s (p .facts) c;
-        confined = refused-or (λ o. ConfinedRecords x (o .after)) s _ _ (λ n. p .confined) (effect-confined c k);
+        confined = refused-or (λ o. ConfinedRecords x (o .after)) s _ _ (λ n. p .confined) (λ n. effect-confined c k (accepted-facts s c n));
       }

@@ -1,18 +1,16 @@
 -- Demand 1: each refusal comes exactly where document 01 says and changes nothing. Assumes nothing.
-use Prim.Native.Nat.{ℕ, suc, _≤_, _<_}
+use Prim.Native.Nat.{ℕ, _≤_, _<_}
 use native.Mathlib.Omega.{arith}
 use mathlib.Core.Path.{_≡_, refl, sym, ap, _∙_, subst}
-use mathlib.Core.Bool.{Bool, true, false, not, _&&_, true≢false, false≢true}
-use mathlib.Core.Logic.{_⊎_, inl, inr, ⊎-elim, _↔_}
+use mathlib.Core.Bool.{Bool, true, false, not, true≢false, false≢true}
+use mathlib.Core.Logic.{_⊎_, inl, inr, ⊎-elim}
 use mathlib.Core.List.{List, [], _∷_, _++_, map}
-use lib.Dec.{eqb, leb, ltb}
 use Rattle.ranks.specs.Lists.{if_then_else_, allTrue}
-use Rattle.records.specs.Split.{shareOfTask}
 use Rattle.records.specs.Layout.{slotOf}
 use Rattle.records.specs.Records.{State}
 use Rattle.records.specs.Bytes.{Tables, decode, rightLengths}
-use Rattle.records.specs.Status.{CORRUPT, BAD-CALLER, BAD-SHAPE}
-use Rattle.specification.specs.Answer.{Answer, Outcome, Refusal, refuse, refuseIfAny}
+use Rattle.records.specs.Status.{CORRUPT, BAD-CALLER, BAD-SHAPE, SUCCESSFUL, TIMEOUT, OBJECT-WAS-DELETED, WAITING}
+use Rattle.specification.specs.Answer.{Outcome, Refusal, refuse, refuseIfAny}
 use Rattle.specification.specs.Call.{Operation, Directive, Call, delete, send, urgent, broadcast, receive, getNumberPending, flush, create, ident, onQueue, call, tick}
 use Rattle.specification.specs.Sound.{sound}
 use Rattle.specification.specs.Lookup.{hasWaiter, hasMessage}
@@ -33,7 +31,7 @@ use Rattle.specification.specs.Tick
 -- ---- A list of refusals and an effect that is none
 
 module _ {S : Type 0} (s : S) (o : Outcome S) (ok : NotRefused (o .answer)) where
-  to-first : (rs : List Refusal) (n : ℕ) → (n ≡ 0 → ⊥) → (n ≡ 14 → ⊥) → refuseIfAny s rs o .answer .status ≡ n → FirstThatHolds n rs
+  to-first : (rs : List Refusal) (n : ℕ) → (n ≡ SUCCESSFUL → ⊥) → (n ≡ WAITING → ⊥) → refuseIfAny s rs o .answer .status ≡ n → FirstThatHolds n rs
   unfolding refuseIfAny
   to-first [] n a b e = absurd (by ok)
     where
@@ -83,7 +81,7 @@ first-status P p (later h f) = first-status P (p .1) f
 
 -- one of a directive's own
 abbrev pub Own : ℕ → Type 0
-Own n = (1 ≤ n) × (n ≤ 15) × (n ≡ 10 → ⊥) × (n ≡ 11 → ⊥) × (n ≡ 14 → ⊥) × (n ≡ 7 → ⊥) × (n ≡ 8 → ⊥)
+Own n = (1 ≤ n) × (n ≤ 15) × (n ≡ CORRUPT → ⊥) × (n ≡ BAD-CALLER → ⊥) × (n ≡ WAITING → ⊥) × (n ≡ TIMEOUT → ⊥) × (n ≡ OBJECT-WAS-DELETED → ⊥)
 
 operation-statuses : (s : State) (caller slot : ℕ) (o : Operation) → Statuses Own (operationRefusals s caller slot o)
 unfolding operationRefusals Delete.refusals Submit.refusals Broadcast.refusals Receive.refusals Flush.refusals
@@ -107,7 +105,7 @@ weaken P Q h [] p = tt
 weaken P Q h (r ∷ rs) p = (h (r .status) (p .0), weaken P Q h rs (p .1))
 
 abbrev pub Refuses : ℕ → Type 0
-Refuses n = (1 ≤ n) × (n ≤ 16) × (n ≡ 14 → ⊥)
+Refuses n = (1 ≤ n) × (n ≤ 16) × (n ≡ WAITING → ⊥)
 
 -- of all refusals of a call on records
 pub call-statuses : (s : State) (c : Call) → Statuses Refuses (commonRefusals s c ++ ownRefusals s c)
@@ -168,9 +166,9 @@ CallerRefused t tick = ⊥
 
 -- which refusal of a call is the first that holds
 pub data Reason (t : Tables) (c : Call) (n : ℕ) : Type 0 where
-  shape : n ≡ 16 → rightLengths t ≡ false → Reason t c n
-  unsound : n ≡ 10 → rightLengths t ≡ true → sound (decode t) ≡ false → Reason t c n
-  caller : n ≡ 11 → rightLengths t ≡ true → sound (decode t) ≡ true → CallerRefused t c → Reason t c n
+  shape : n ≡ BAD-SHAPE → rightLengths t ≡ false → Reason t c n
+  unsound : n ≡ CORRUPT → rightLengths t ≡ true → sound (decode t) ≡ false → Reason t c n
+  caller : n ≡ BAD-CALLER → rightLengths t ≡ true → sound (decode t) ≡ true → CallerRefused t c → Reason t c n
   own : Own n → Reason t c n
 
 reason : (t : Tables) (c : Call) (n : ℕ) → FirstThatHolds n (refusals t c) → Reason t c n
@@ -189,48 +187,48 @@ module _ (t : Tables) (c : Call) where
   unfolding step
   first-is n f = from-first t (encoded (effect (decode t) c)) (effect-not-refused (decode t) c) (refusals t c) n f
 
-  is-first : (n : ℕ) → (n ≡ 0 → ⊥) → (n ≡ 14 → ⊥) → step t c .answer .status ≡ n → FirstThatHolds n (refusals t c)
+  is-first : (n : ℕ) → (n ≡ SUCCESSFUL → ⊥) → (n ≡ WAITING → ⊥) → step t c .answer .status ≡ n → FirstThatHolds n (refusals t c)
   unfolding step
   is-first n a b e = to-first t (encoded (effect (decode t) c)) (effect-not-refused (decode t) c) (refusals t c) n a b e
 
-  pub why : (n : ℕ) → (n ≡ 0 → ⊥) → (n ≡ 14 → ⊥) → step t c .answer .status ≡ n → Reason t c n
+  pub why : (n : ℕ) → (n ≡ SUCCESSFUL → ⊥) → (n ≡ WAITING → ⊥) → step t c .answer .status ≡ n → Reason t c n
   why n a b e = reason t c n (is-first n a b e)
 
   status-is : (n : ℕ) → FirstThatHolds n (refusals t c) → step t c .answer .status ≡ n
   status-is n f = ap (λ (o : Outcome Tables). o .answer .status) (first-is n f)
 
-  shape-first : rightLengths t ≡ false → FirstThatHolds 16 (refusals t c)
+  shape-first : rightLengths t ≡ false → FirstThatHolds BAD-SHAPE (refusals t c)
   unfolding refusals
   shape-first e = here (ap not e) refl
 
-  pub corrupt-first : rightLengths t ≡ true → sound (decode t) ≡ false → FirstThatHolds 10 (refusals t c)
+  pub corrupt-first : rightLengths t ≡ true → sound (decode t) ≡ false → FirstThatHolds CORRUPT (refusals t c)
   unfolding refusals commonRefusals
   corrupt-first e f = later (ap not e) (go c)
     where
-      go : (c : Call) → FirstThatHolds 10 (commonRefusals (decode t) c ++ ownRefusals (decode t) c)
+      go : (c : Call) → FirstThatHolds CORRUPT (commonRefusals (decode t) c ++ ownRefusals (decode t) c)
       go (call k d) = here (ap not f) refl
       go tick = here (ap not f) refl
 
 caller-first : (t : Tables) (k : ℕ) (d : Directive) → rightLengths t ≡ true → sound (decode t) ≡ true → badCaller (decode t) k ≡ true
-    → FirstThatHolds 11 (refusals t (call k d))
+    → FirstThatHolds BAD-CALLER (refusals t (call k d))
 unfolding refusals commonRefusals
 caller-first t k d e f b = later (ap not e) (later (ap not f) (here b refl))
 
 -- ---- Each number is one reason's alone
 
-only-shape : {t : Tables} {c : Call} → Reason t c 16 → rightLengths t ≡ false
+only-shape : {t : Tables} {c : Call} → Reason t c BAD-SHAPE → rightLengths t ≡ false
 only-shape (shape z h) = h
 only-shape (unsound z h k) = absurd (omega arith)
 only-shape (caller z h k l) = absurd (omega arith)
 only-shape (own p) = absurd (let q = p .1 in omega arith)
 
-only-corrupt : {t : Tables} {c : Call} → Reason t c 10 → (rightLengths t ≡ true) × (sound (decode t) ≡ false)
+only-corrupt : {t : Tables} {c : Call} → Reason t c CORRUPT → (rightLengths t ≡ true) × (sound (decode t) ≡ false)
 only-corrupt (shape z h) = absurd (omega arith)
 only-corrupt (unsound z h k) = (h, k)
 only-corrupt (caller z h k l) = absurd (omega arith)
 only-corrupt (own p) = absurd (p .2 refl)
 
-only-caller : {t : Tables} {c : Call} → Reason t c 11 → (rightLengths t ≡ true) × (sound (decode t) ≡ true) × CallerRefused t c
+only-caller : {t : Tables} {c : Call} → Reason t c BAD-CALLER → (rightLengths t ≡ true) × (sound (decode t) ≡ true) × CallerRefused t c
 only-caller (shape z h) = absurd (omega arith)
 only-caller (unsound z h k) = absurd (omega arith)
 only-caller (caller z h k l) = (h, k, l)
@@ -248,16 +246,16 @@ demand-1 =
       exactly = λ t c n a b. (is-first t c n a b, status-is t c n);
       accepted = λ t c. (accepted-none t c, none-accepted t c);
       refused = λ t c a b. first-is t c _ (is-first t c _ a b refl);
-      bad-shape = λ t c. (λ e. only-shape (why t c 16 (λ z. omega arith) (λ z. omega arith) e), λ h. status-is t c 16 (shape-first t c h));
+      bad-shape = λ t c. (λ e. only-shape (why t c BAD-SHAPE (λ z. omega arith) (λ z. omega arith) e), λ h. status-is t c BAD-SHAPE (shape-first t c h));
       corrupt =
-          λ t c. (λ e. only-corrupt (why t c 10 (λ z. omega arith) (λ z. omega arith) e), λ (h, k). status-is t c 10 (corrupt-first t c h k));
+          λ t c. (λ e. only-corrupt (why t c CORRUPT (λ z. omega arith) (λ z. omega arith) e), λ (h, k). status-is t c CORRUPT (corrupt-first t c h k));
       bad-caller =
           λ t k d.
-          (λ e. only-caller (why t (call k d) 11 (λ z. omega arith) (λ z. omega arith) e), λ (h, a, b). status-is t (call k d) 11 (caller-first t k d h a b));
-      tick-has-no-caller = λ t e. only-caller (why t tick 11 (λ z. omega arith) (λ z. omega arith) e) .2;
+          (λ e. only-caller (why t (call k d) BAD-CALLER (λ z. omega arith) (λ z. omega arith) e), λ (h, a, b). status-is t (call k d) BAD-CALLER (caller-first t k d h a b));
+      tick-has-no-caller = λ t e. only-caller (why t tick BAD-CALLER (λ z. omega arith) (λ z. omega arith) e) .2;
       only-to-tasks =
           λ t c. (
-            λ e. only-own 7 (omega arith) (why t c 7 (λ z. omega arith) (λ z. omega arith) e) .5 refl,
-            λ e. only-own 8 (omega arith) (why t c 8 (λ z. omega arith) (λ z. omega arith) e) .6 refl,
+            λ e. only-own TIMEOUT (omega arith) (why t c TIMEOUT (λ z. omega arith) (λ z. omega arith) e) .5 refl,
+            λ e. only-own OBJECT-WAS-DELETED (omega arith) (why t c OBJECT-WAS-DELETED (λ z. omega arith) (λ z. omega arith) e) .6 refl,
           );
     }

@@ -1,34 +1,34 @@
 -- Demand 2, put together. Assumes nothing.
-use Prim.Native.Nat.{ℕ, suc, _≤_, _<_}
+use Prim.Native.Nat.{ℕ, suc, _<_}
 use native.Mathlib.Omega.{arith}
 use mathlib.Core.Path.{_≡_, refl, sym, ap, _∙_, subst}
-use mathlib.Core.Bool.{Bool, true, false, not, _||_}
-use mathlib.Core.Logic.{_⊎_, inl, inr, ⊎-elim}
-use mathlib.Core.List.{List, [], _∷_, _++_, map}
+use mathlib.Core.Bool.{Bool, true, not, _||_}
+use mathlib.Core.Logic.{_⊎_, inl, ⊎-elim}
+use mathlib.Core.List.{List, [], _∷_, map}
 use lib.Dec.{eqb}
 use lib.Count.{ones}
 use borrow.Author.Tests.{ne-eqb}
 use Rattle.ranks.specs.Lists.{allTrue, mapWithIndex}
+use Rattle.records.specs.Layout.{bufferCount, slotCount, taskCount}
 use Rattle.records.specs.Records.{State, queueAt, bufferAt, taskAt, fresh}
 use Rattle.records.specs.Bytes.{Tables, decode}
 use Rattle.records.specs.Status.{CORRUPT, BAD-CALLER, BAD-SHAPE}
 use Rattle.specification.specs.Answer.{Answer, Outcome, refuseIfAny, _⇒_}
 use Rattle.specification.specs.Call.{Call, broadcast, onQueue, call, tick, argumentsInRange}
-use Rattle.specification.specs.Sound.{sound}
 use Rattle.specification.specs.Lookup.{waitersOf}
 use Rattle.specification.specs.Step.{badCaller, commonRefusals, ownRefusals, operationEffect, effect, step}
 use Rattle.specification.specs.Run.{Event, run, freshTables, goodPriorities}
-use Rattle.theorems.specs.SoundTables.{SoundTables, NotRefused}
+use Rattle.theorems.specs.SoundTables.{SoundTables}
 use Rattle.theorems.specs.Demands.{LayoutHolds, issued, distinct, Demand2}
 use Rattle.ranks.proofs.ByRank.{counted}
 use Rattle.records.proofs.Access.{ones-mask}
 use Rattle.records.proofs.EncodeDecode.{encode-decode}
-use Rattle.specification.proofs.OnRecords.{callOnRecords, eventsOnRecords, stateAfter}
-use Rattle.specification.proofs.Refused.{None, Statuses, refused-with, refused-or}
+use Rattle.specification.proofs.OnRecords.{callOnRecords, eventsOnRecords}
+use Rattle.specification.proofs.Refused.{Statuses, refused-with, refused-or}
 use Rattle.specification.proofs.Rules.{queue-rules}
-use Rattle.specification.proofs.SoundFacts.{SoundFacts, is-sound}
+use Rattle.specification.proofs.SoundFacts.{SoundFacts, is-sound, buffers-ranked, tasks-ranked}
 use Rattle.theorems.proofs.Demand1.{Own, own-statuses, weaken, effect-not-refused}
-use Rattle.theorems.proofs.FieldsInRange.{decoded, encoded-bytes, in-range-sized, in-range-fits, buffers-ranked, tasks-ranked}
+use Rattle.theorems.proofs.FieldsInRange.{decoded, encoded-bytes, in-range-sized, in-range-fits}
 use Rattle.theorems.proofs.Fresh.{priorities, fresh-sound}
 use Rattle.theorems.proofs.Ids.{ids-distinct}
 use Rattle.theorems.proofs.Noninterference.{fresh-fits}
@@ -55,11 +55,11 @@ layout =
 
 -- ---- Messages and waiters
 
-module _ (s : State) (g : SoundFacts s) (i : ℕ) (h : i < 16) where
+module _ (s : State) (g : SoundFacts s) (i : ℕ) (h : i < slotCount) where
   pub counts-apart : (queueAt s i .pending ≡ 0) ⊎ (queueAt s i .waiters ≡ 0)
   counts-apart = ⊎-elim (λ l. l .either) (λ f. inl (f .pending)) (queue-rules _ (g .queue i h))
 
-  pub records-apart : (b k : ℕ) → b < 64 → k < 32 → bufferAt s b .position .queue ≡ suc i → taskAt s k .position .queue ≡ suc i → ⊥
+  pub records-apart : (b k : ℕ) → b < bufferCount → k < taskCount → bufferAt s b .position .queue ≡ suc i → taskAt s k .position .queue ≡ suc i → ⊥
   records-apart b k hb hk q q′ =
       ⊎-elim (λ e. let m = g .messages i h .below b hb q in omega arith) (λ e. let w = g .waiters i h .below k hk q′ in omega arith) counts-apart
 
@@ -90,10 +90,10 @@ abbrev isSoundStatus : ℕ → Bool
 isSoundStatus n = not (eqb n CORRUPT || eqb n BAD-SHAPE)
 
 abbrev Neither : ℕ → Type 0
-Neither n = (n ≡ 10 → ⊥) × (n ≡ 16 → ⊥)
+Neither n = (n ≡ CORRUPT → ⊥) × (n ≡ BAD-SHAPE → ⊥)
 
 neither : (n : ℕ) → Neither n → isSoundStatus n ≡ true
-neither n (a, b) = rw (ne-eqb n 10 a, ne-eqb n 16 b)
+neither n (a, b) = rw (ne-eqb n CORRUPT a, ne-eqb n BAD-SHAPE b)
 
 effect-status : (s : State) (c : Call) → isSoundStatus (effect s c .answer .status) ≡ true
 effect-status s c = neither (effect s c .answer .status) (⊎-elim (λ e. omega arith) (λ e. omega arith) (effect-not-refused s c))

@@ -1,35 +1,35 @@
 -- Every call and tick leaves records that fit the bytes they are written in. Assumes nothing.
-use Prim.Native.Nat.{ℕ, suc, _+_, _-_, _≤_, _<_}
+use Prim.Native.Nat.{ℕ, _≤_, _<_}
 use native.Mathlib.Omega.{arith}
 use mathlib.Core.Path.{_≡_, refl, sym, ap, _∙_, subst}
-use mathlib.Core.Bool.{Bool, true, false, _&&_, not}
+use mathlib.Core.Bool.{Bool, true, false}
 use mathlib.Core.List.{List, [], _∷_, map}
 use lib.Dec.{eqb, ltb}
 use lib.ListN.{length, getD, take, drop, replicate, length-append, length-drop, length-take}
-use borrow.Author.Tests.{ltb-true, leb-false, not-false}
+use borrow.Author.Tests.{ltb-true}
 use Rattle.ranks.specs.Lists.{if_then_else_, mapWithIndex, allTrue, numbersFrom}
 use Rattle.ranks.specs.Position.{Position, inQueue}
-use Rattle.records.specs.Split.{shareOfSlot, shareOfTask}
-use Rattle.records.specs.Layout.{slotOf}
+use Rattle.records.specs.Split.{shareOfTask}
+use Rattle.records.specs.Layout.{slotOf, capacity, slotCount, bufferCount, taskCount, byteValues}
 use Rattle.records.specs.Records.{Queue, Buffer, Task, State, queueAt, bufferAt, taskAt, freeQueue, freeBuffer, freshTask}
-use Rattle.records.specs.Changes.{atIndex, overwriteFront, moveBuffer, messageBuffer, moveTask, withTicks, readyWith, withMessage}
+use Rattle.records.specs.Changes.{atIndex, overwriteFront, moveBuffer, messageBuffer, moveTask, readyWith, withMessage}
 use Rattle.records.specs.InRange.{AllBytes}
 use Rattle.records.specs.Status.{TIMEOUT}
 use Rattle.specification.specs.Answer.{Outcome}
-use Rattle.specification.specs.Sound.{slotIn}
 use Rattle.specification.specs.Call.{Operation, Call, delete, send, urgent, broadcast, receive, getNumberPending, flush, create, ident, onQueue, call, tick, operationInRange, directiveInRange, argumentsInRange}
 use Rattle.specification.specs.Lookup.{usable, firstWaiter, hasWaiter, firstMessage, hasMessage, leave, withoutWaiters, withoutMessages}
 use Rattle.specification.specs.Tick.{expires, isTimed, tickTask, tickTasks}
 use Rattle.specification.specs.Step.{directiveRefusals, operationRefusals, operationEffect, effect}
 use Rattle.ranks.proofs.Lists.{at-mapped, holds}
 use Rattle.ranks.proofs.Tests.{both}
-use Rattle.records.proofs.DecodeEncode.{QueueEncodable, BufferEncodable, TaskEncodable}
+use Rattle.records.proofs.DecodeEncode.{QueueEncodable}
+use Rattle.records.proofs.Fits.{counts-fit, free-queue-fits, live-queue-fits}
 use Rattle.records.proofs.ByteLists.{bytes-append, bytes-take, bytes-drop, bytes-zeros, bytes-tested}
 use Rattle.specification.proofs.OnRecords.{callOnRecords}
 use Rattle.specification.proofs.Refused.{None, refused-or}
 use Rattle.specification.proofs.SoundFacts.{Sized, SoundFacts}
 use Rattle.theorems.proofs.KeptQueues.{at-both}
-use Rattle.theorems.proofs.SoundCall.{ReadyCaller, Accepted, accepted}
+use Rattle.specification.proofs.Accepted.{Accepted, accepted-facts, creatable, on-queue, broadcast-size}
 use Rattle.theorems.proofs.SoundCreate.{slot-found}
 use Rattle.theorems.proofs.SoundSubmit.{slot-below, usable-live, submitted, short}
 use Rattle.theorems.proofs.SoundTick.{Below, below-range, tickTask-sound}
@@ -46,7 +46,7 @@ use Rattle.specification.specs.Tick
 
 -- a list of 120 bytes
 pub record Data (bytes : List ℕ) : Type 0 where
-  pub long : length bytes ≡ 120
+  pub long : length bytes ≡ capacity
   pub each : AllBytes bytes
 
 pub record BufferFits (m : Buffer) : Type 0 where
@@ -54,22 +54,22 @@ pub record BufferFits (m : Buffer) : Type 0 where
   pub bytes : Data (m .bytes)
 
 pub record TaskFits (w : Task) : Type 0 where
-  pub priority : w .priority < 256
+  pub priority : w .priority < byteValues
   pub reserved : length (w .reserved) ≡ 2
   pub ticksLeft : w .ticksLeft < 4294967296
   pub reservedAfter : length (w .reservedAfter) ≡ 4
   pub receiveBuffer : Data (w .receiveBuffer)
 
 pub record Encodable (s : State) : Type 0 where
-  pub queues : (i : ℕ) → i < 16 → QueueEncodable (queueAt s i)
-  pub pool : (b : ℕ) → b < 64 → BufferFits (bufferAt s b)
-  pub tasks : (t : ℕ) → t < 32 → TaskFits (taskAt s t)
+  pub queues : (i : ℕ) → i < slotCount → QueueEncodable (queueAt s i)
+  pub pool : (b : ℕ) → b < bufferCount → BufferFits (bufferAt s b)
+  pub tasks : (t : ℕ) → t < taskCount → TaskFits (taskAt s t)
 
 -- ---- One record changed
 
 -- a message that fits a buffer
 pub record Message (message : List ℕ) : Type 0 where
-  pub short : length message ≤ 120
+  pub short : length message ≤ capacity
   pub each : AllBytes message
 
 overwritten : {message bytes : List ℕ} → Message message → Data bytes → Data (overwriteFront message bytes)
@@ -79,8 +79,8 @@ overwritten {message} {bytes} m d =
       each = bytes-append (m .each) (bytes-drop (length message) (d .each));
     }
 
-zeroed : Data (replicate 120 0)
-zeroed = record { long = refl; each = bytes-zeros 120 }
+zeroed : Data (replicate capacity 0)
+zeroed = record { long = refl; each = bytes-zeros capacity }
 
 free-fits : BufferFits freeBuffer
 free-fits = record { reserved = refl; bytes = zeroed }
@@ -96,7 +96,7 @@ task-fits : {w w′ : Task} → TaskFits w → w′ .priority ≡ w .priority �
     → w′ .reservedAfter ≡ w .reservedAfter → Data (w′ .receiveBuffer) → TaskFits w′
 task-fits f p r t a d =
     record {
-      priority = subst (λ (n : ℕ). n < 256) (sym p) (f .priority);
+      priority = subst (λ (n : ℕ). n < byteValues) (sym p) (f .priority);
       reserved = ap length r ∙ f .reserved;
       ticksLeft = t;
       reservedAfter = ap length a ∙ f .reservedAfter;
@@ -111,15 +111,6 @@ readyWith-fits n f = task-fits f refl refl (omega arith) refl (f .receiveBuffer)
 
 moveTask-fits : (p : Position) {w : Task} → TaskFits w → TaskFits (moveTask p w)
 moveTask-fits p f = task-fits f refl refl (f .ticksLeft) refl (f .receiveBuffer)
-
--- a queue with other counts
-counts-fit : {q q′ : Queue} → q′ .generation ≡ q .generation → q′ .name ≡ q .name → q′ .reserved ≡ q .reserved → QueueEncodable q → QueueEncodable q′
-counts-fit a b c k =
-    record {
-      generation = subst (λ (n : ℕ). n < 65536) (sym a) (k .generation);
-      name = subst (λ (n : ℕ). n < 4294967296) (sym b) (k .name);
-      reserved = ap length c ∙ k .reserved;
-    }
 
 either-fits : {A : Type 0} (P : A → Type 0) (b : Bool) {x y : A} → P x → P y → P (if b then x else y)
 either-fits P true h k = h
@@ -138,17 +129,17 @@ module _ {A : Type 0} (P : A → Type 0) (d : A) (N : ℕ) (l : List A) (len : l
       (λ e. subst (λ (j : ℕ). P (f (getD l j d))) (sym e) (h (omega arith) (fits k (omega arith)))) (λ _. fits i lt))
 
 module _ (s : State) (z : Sized s) (f : Encodable s) where
-  queues-fit : (slot : ℕ) (F : Queue → Queue) → (slot < 16 → QueueEncodable (queueAt s slot) → QueueEncodable (F (queueAt s slot)))
-      → (i : ℕ) → i < 16 → QueueEncodable (getD (mapWithIndex (atIndex slot F) (s .queues)) i (freeQueue 0))
-  queues-fit = one-fits QueueEncodable (freeQueue 0) 16 (s .queues) (z .queues) (f .queues)
+  queues-fit : (slot : ℕ) (F : Queue → Queue) → (slot < slotCount → QueueEncodable (queueAt s slot) → QueueEncodable (F (queueAt s slot)))
+      → (i : ℕ) → i < slotCount → QueueEncodable (getD (mapWithIndex (atIndex slot F) (s .queues)) i (freeQueue 0))
+  queues-fit = one-fits QueueEncodable (freeQueue 0) slotCount (s .queues) (z .queues) (f .queues)
 
   pool-fits : (F : ℕ → Buffer → Buffer) → ((b : ℕ) (m : Buffer) → BufferFits m → BufferFits (F b m))
-      → (b : ℕ) → b < 64 → BufferFits (getD (mapWithIndex F (s .pool)) b freeBuffer)
-  pool-fits = all-fit BufferFits freeBuffer 64 (s .pool) (z .pool) (f .pool)
+      → (b : ℕ) → b < bufferCount → BufferFits (getD (mapWithIndex F (s .pool)) b freeBuffer)
+  pool-fits = all-fit BufferFits freeBuffer bufferCount (s .pool) (z .pool) (f .pool)
 
   tasks-fit : (F : ℕ → Task → Task) → ((t : ℕ) (w : Task) → TaskFits w → TaskFits (F t w))
-      → (t : ℕ) → t < 32 → TaskFits (getD (mapWithIndex F (s .tasks)) t (freshTask 1))
-  tasks-fit = all-fit TaskFits (freshTask 1) 32 (s .tasks) (z .tasks) (f .tasks)
+      → (t : ℕ) → t < taskCount → TaskFits (getD (mapWithIndex F (s .tasks)) t (freshTask 1))
+  tasks-fit = all-fit TaskFits (freshTask 1) taskCount (s .tasks) (z .tasks) (f .tasks)
 
   -- ---- The effects
 
@@ -156,7 +147,7 @@ module _ (s : State) (z : Sized s) (f : Encodable s) where
   unfolding leave
   leave-fits t slot rank g h =
       record {
-        queues = queues-fit slot _ (λ _ k. counts-fit refl refl refl k);
+        queues = queues-fit slot _ (λ _ k. counts-fit _ _ k);
         pool = f .pool;
         tasks = tasks-fit _ (λ j w k. either-fits TaskFits (eqb j t) (h w k) (moveTask-fits _ k));
       }
@@ -167,7 +158,7 @@ module _ (s : State) (z : Sized s) (f : Encodable s) where
       either-fits (λ (o : Outcome State). Encodable (o .after)) (hasWaiter s slot)
       (leave-fits (firstWaiter s slot) slot 0 (withMessage message) (λ w k. withMessage-fits m k))
       (record {
-        queues = queues-fit slot _ (λ _ k. counts-fit refl refl refl k);
+        queues = queues-fit slot _ (λ _ k. counts-fit _ _ k);
         pool = pool-fits _ (λ j b k. either-fits BufferFits (eqb j _) (messageBuffer-fits _ m) (moveBuffer-fits _ k));
         tasks = f .tasks;
       })
@@ -176,7 +167,7 @@ module _ (s : State) (z : Sized s) (f : Encodable s) where
   unfolding Broadcast.effect withoutWaiters
   broadcast-fits slot message m =
       record {
-        queues = queues-fit slot _ (λ _ k. counts-fit refl refl refl k);
+        queues = queues-fit slot _ (λ _ k. counts-fit _ _ k);
         pool = f .pool;
         tasks = tasks-fit _ (λ j w k. either-fits TaskFits (inQueue slot (w .position)) (withMessage-fits m k) k);
       }
@@ -185,7 +176,7 @@ module _ (s : State) (z : Sized s) (f : Encodable s) where
   unfolding Delete.effect withoutWaiters withoutMessages
   delete-fits slot =
       record {
-        queues = queues-fit slot _ (λ _ k. record { generation = k .generation; name = omega arith; reserved = refl });
+        queues = queues-fit slot _ (λ _ k. free-queue-fits _ (k .generation));
         pool = pool-fits _ (λ j m k. either-fits BufferFits (inQueue slot (m .position)) free-fits k);
         tasks = tasks-fit _ (λ j w k. either-fits TaskFits (inQueue slot (w .position)) (readyWith-fits 8 k) k);
       }
@@ -194,7 +185,7 @@ module _ (s : State) (z : Sized s) (f : Encodable s) where
   unfolding Flush.effect withoutMessages
   flush-fits slot =
       record {
-        queues = queues-fit slot _ (λ _ k. counts-fit refl refl refl k);
+        queues = queues-fit slot _ (λ _ k. counts-fit _ _ k);
         pool = pool-fits _ (λ j m k. either-fits BufferFits (inQueue slot (m .position)) free-fits k);
         tasks = f .tasks;
       }
@@ -204,7 +195,7 @@ module _ (s : State) (z : Sized s) (f : Encodable s) where
   unfolding Create.effect
   create-fits slot name limit maxSize attributes h n =
       record {
-        queues = queues-fit slot _ (λ _ k. record { generation = omega arith; name = n; reserved = refl });
+        queues = queues-fit slot _ (λ _ k. live-queue-fits _ name limit maxSize attributes (queueAt s slot) (omega arith) n);
         pool = f .pool;
         tasks = f .tasks;
       }
@@ -216,7 +207,7 @@ module _ (s : State) (z : Sized s) (f : Encodable s) where
       b : ℕ
       b = firstMessage s slot
 
-      message : b < 64 → Message (take (bufferAt s b .messageLength) (bufferAt s b .bytes))
+      message : b < bufferCount → Message (take (bufferAt s b .messageLength) (bufferAt s b .bytes))
       message lt =
           let d = f .pool b lt .bytes in
           record {
@@ -228,20 +219,20 @@ module _ (s : State) (z : Sized s) (f : Encodable s) where
           → Encodable ((if t then Receive.received s caller slot b else Receive.waiting s caller slot (Receive.waitRank s caller slot) ticks) .after)
       go true e =
           record {
-            queues = queues-fit slot _ (λ _ k. counts-fit refl refl refl k);
+            queues = queues-fit slot _ (λ _ k. counts-fit _ _ k);
             pool = pool-fits _ (λ j m k. either-fits BufferFits (eqb j b) free-fits (moveBuffer-fits _ k));
             tasks = tasks-fit _ (λ j w k. either-fits TaskFits (eqb j caller) (withMessage-fits (message (ltb-true _ _ e)) k) k);
           }
       go false e =
           record {
-            queues = queues-fit slot _ (λ _ k. counts-fit refl refl refl k);
+            queues = queues-fit slot _ (λ _ k. counts-fit _ _ k);
             pool = f .pool;
             tasks =
                 tasks-fit _
                 (λ j w k. either-fits TaskFits (eqb j caller) (task-fits k refl refl h refl (k .receiveBuffer)) (moveTask-fits _ k));
           }
 
-  tickTask-fits : (t : ℕ) → t < 32 → Encodable (tickTask s t)
+  tickTask-fits : (t : ℕ) → t < taskCount → Encodable (tickTask s t)
   unfolding tickTask
   tickTask-fits t lt =
       either-fits Encodable (expires (taskAt s t)) (leave-fits t _ _ (readyWith TIMEOUT) (λ w k. readyWith-fits TIMEOUT k))
@@ -255,7 +246,7 @@ module _ (s : State) (z : Sized s) (f : Encodable s) where
             (task-fits k refl refl (let e = f .tasks t lt .ticksLeft in omega arith) refl (k .receiveBuffer)) k);
       }) f)
 
-tickTasks-fit : (s : State) (ts : List ℕ) → SoundFacts s → Encodable s → Below 32 ts → Encodable (tickTasks s ts)
+tickTasks-fit : (s : State) (ts : List ℕ) → SoundFacts s → Encodable s → Below taskCount ts → Encodable (tickTasks s ts)
 unfolding tickTasks
 tickTasks-fit s [] g f b = f
 tickTasks-fit s (t ∷ ts) g f b = tickTasks-fit (tickTask s t) ts (tickTask-sound s g t (b .0)) (tickTask-fits s (g .sized) f t (b .0)) (b .1)
@@ -266,7 +257,7 @@ module _ (s : State) (g : SoundFacts s) (f : Encodable s) where
   abbrev z : Sized s
   z = g .sized
 
-  sent : (caller id rank : ℕ) (message : List ℕ) → usable s caller id ≡ true → allTrue (map (λ b. ltb b 256) message) ≡ true
+  sent : (caller id rank : ℕ) (message : List ℕ) → usable s caller id ≡ true → allTrue (map (λ b. ltb b byteValues) message) ≡ true
       → None (Submit.refusals s (slotOf id) message) → Message message
   sent caller id rank message u e n =
       record {
@@ -276,14 +267,14 @@ module _ (s : State) (g : SoundFacts s) (f : Encodable s) where
 
   operation-fits : (caller id : ℕ) (o : Operation) → usable s caller id ≡ true → operationInRange o ≡ true
       → None (operationRefusals s caller (slotOf id) o) → Encodable (operationEffect s caller (slotOf id) o .after)
-  unfolding operationRefusals operationEffect operationInRange GetNumberPending.effect Broadcast.refusals
+  unfolding operationRefusals operationEffect operationInRange GetNumberPending.effect
   operation-fits caller id delete u e n = delete-fits s z f (slotOf id)
   operation-fits caller id (send message) u e n = submit-fits s z f (slotOf id) _ message (sent caller id 0 message u e n)
   operation-fits caller id (urgent message) u e n = submit-fits s z f (slotOf id) _ message (sent caller id 0 message u e n)
   operation-fits caller id (broadcast message) u e n =
       broadcast-fits s z f (slotOf id) message
       (record {
-        short = broadcast-short s g (slotOf id) (slot-below id) message (usable-live s caller id u) (not-false _ (n .0));
+        short = broadcast-short s g (slotOf id) (slot-below id) message (usable-live s caller id u) (broadcast-size s (slotOf id) message n);
         each = bytes-tested message e;
       })
   operation-fits caller id (receive option ticks) u e n = receive-fits s z f caller (slotOf id) ticks (ltb-true _ _ (holds _ e .1 .0))
@@ -291,15 +282,16 @@ module _ (s : State) (g : SoundFacts s) (f : Encodable s) where
   operation-fits caller id flush u e n = flush-fits s z f (slotOf id)
 
   pub effect-fits : (c : Call) → Accepted s c → argumentsInRange c ≡ true → Encodable (effect s c .after)
-  unfolding effect directiveRefusals Accepted argumentsInRange directiveInRange Ident.effect Create.refusals Tick.effect
-  effect-fits (call caller (create name limit maxSize attributes)) (r, (_, (_, (_, (_, (free, _)))))) e =
-      create-fits s z f _ name limit maxSize attributes (slot-found s z (shareOfTask caller) (leb-false _ _ free) .2)
+  unfolding effect directiveRefusals Accepted argumentsInRange directiveInRange Ident.effect Tick.effect
+  effect-fits (call caller (create name limit maxSize attributes)) a e =
+      create-fits s z f _ name limit maxSize attributes (slot-found s z (shareOfTask caller) (creatable s (shareOfTask caller) name limit maxSize attributes (a .directive) .slotBelow) .2)
       (ltb-true _ _ (holds _ (both (ltb caller 4294967296) _ e .1) .0))
-  effect-fits (call caller (ident name share)) (r, n) e = f
-  effect-fits (call caller (onQueue id o)) (r, n) e =
-      operation-fits caller id o (not-false _ (n .0)) (both (ltb id 4294967296) _ (both (ltb caller 4294967296) _ e .1) .1) (n .1)
-  effect-fits tick a e = tickTasks-fit s (numbersFrom 0 32) g f (below-range 32 0 32 (omega arith))
+  effect-fits (call caller (ident name share)) a e = f
+  effect-fits (call caller (onQueue id o)) a e =
+      let q = on-queue s caller id o (a .directive) in
+      operation-fits caller id o (q .isUsable) (both (ltb id 4294967296) _ (both (ltb caller 4294967296) _ e .1) .1) (q .operation)
+  effect-fits tick a e = tickTasks-fit s (numbersFrom 0 taskCount) g f (below-range taskCount 0 taskCount (omega arith))
 
   pub call-fits : (c : Call) → argumentsInRange c ≡ true → Encodable (callOnRecords s c .after)
   unfolding callOnRecords
-  call-fits c e = refused-or (λ o. Encodable (o .after)) s _ _ (λ n. f) (λ n. effect-fits c (accepted s c n) e)
+  call-fits c e = refused-or (λ o. Encodable (o .after)) s _ _ (λ n. f) (λ n. effect-fits c (accepted-facts s c n) e)

@@ -10,6 +10,7 @@ use lib.ListN.{length, getD}
 use borrow.Author.Tests.{eqb-true}
 use Rattle.ranks.specs.Lists.{if_then_else_, mapWithIndex, bit, mask}
 use Rattle.ranks.specs.Position.{Position}
+use Rattle.records.specs.Layout.{slotCount, bufferCount, taskCount}
 use Rattle.records.specs.Split.{shareOfSlot, shareOfBuffer, shareOfTask}
 use Rattle.records.specs.Records.{Queue, Task, State, queueAt, bufferAt, taskAt, freeQueue, freeBuffer, freshTask}
 use Rattle.specification.specs.Answer.{Outcome, Refusal, refuse, refuseIfAny}
@@ -71,9 +72,9 @@ module _ {A : Type 0} (share : ℕ → ℕ) (position : A → Position) (x N : �
 
 -- the unwinding relation
 pub record Equivalent (x : ℕ) (s s′ : State) : Type 0 where
-  pub queues : SameAt shareOfSlot x 16 (freeQueue 0) (s .queues) (s′ .queues)
-  pub pool : SameAt shareOfBuffer x 64 freeBuffer (s .pool) (s′ .pool)
-  pub tasks : SameAt shareOfTask x 32 (freshTask 1) (s .tasks) (s′ .tasks)
+  pub queues : SameAt shareOfSlot x slotCount (freeQueue 0) (s .queues) (s′ .queues)
+  pub pool : SameAt shareOfBuffer x bufferCount freeBuffer (s .pool) (s′ .pool)
+  pub tasks : SameAt shareOfTask x taskCount (freshTask 1) (s .tasks) (s′ .tasks)
 
 pub equivalent-refl : (x : ℕ) (s : State) → Equivalent x s s
 equivalent-refl x s = record { queues = λ i h o. refl; pool = λ i h o. refl; tasks = λ i h o. refl }
@@ -92,8 +93,8 @@ equivalent-trans e f =
 
 -- no queue of x is OPEN, and no task of x waits in another share's queue
 pub record ConfinedRecords (x : ℕ) (s : State) : Type 0 where
-  pub closed : (i : ℕ) → i < 16 → shareOfSlot i ≡ x → queueAt s i .attributes < 2
-  pub home : (t : ℕ) → t < 32 → shareOfTask t ≡ x → (slot : ℕ) → taskAt s t .position .queue ≡ suc slot → shareOfSlot slot ≡ x
+  pub closed : (i : ℕ) → i < slotCount → shareOfSlot i ≡ x → queueAt s i .attributes < 2
+  pub home : (t : ℕ) → t < taskCount → shareOfTask t ≡ x → (slot : ℕ) → taskAt s t .position .queue ≡ suc slot → shareOfSlot slot ≡ x
 
 -- the confinement invariant, of sound tables
 pub record Confined (x : ℕ) (s : State) : Type 0 where
@@ -114,14 +115,14 @@ equivalent-confined g e p =
 
 module _ {x : ℕ} {s : State} (p : Confined x s) where
   -- an OPEN queue is not x's
-  pub not-open : (slot : ℕ) → slot < 16 → shareOfSlot slot ≡ x → eqb (queueAt s slot .attributes / 2 % 2) 1 ≡ true → ⊥
+  pub not-open : (slot : ℕ) → slot < slotCount → shareOfSlot slot ≡ x → eqb (queueAt s slot .attributes / 2 % 2) 1 ≡ true → ⊥
   not-open slot h o a =
       let b : queueAt s slot .attributes / 2 % 2 ≡ 1 = eqb-true _ _ a in
       let c = p .confined .closed slot h o in
       omega arith
 
   -- only x's tasks wait in x's queues
-  pub tasks-in-own : InOwnQueues shareOfTask (λ w. w .position) x 32 (freshTask 1) (s .tasks)
+  pub tasks-in-own : InOwnQueues shareOfTask (λ w. w .position) x taskCount (freshTask 1) (s .tasks)
   tasks-in-own =
       record {
         of-record = λ t slot h q o. p .confined .home t h o slot q;
@@ -132,13 +133,13 @@ module _ {x : ℕ} {s : State} (p : Confined x s) where
       waits t slot q o w =
           let e : w .slot ≡ slot = let a = w .queue in omega arith in
           let o′ : shareOfSlot (w .slot) ≡ x = ap shareOfSlot e ∙ o in
-          ⊎-elim (λ a. sym (eqb-true _ _ a) ∙ o′) (λ a. absurd (not-open (w .slot) (w .within16) o′ a)) (or _ _ (w .access))
+          ⊎-elim (λ a. sym (eqb-true _ _ a) ∙ o′) (λ a. absurd (not-open (w .slot) (w .slotBelow) o′ a)) (or _ _ (w .access))
 
   -- a message is in a buffer of its queue's share
-  pub pool-in-own : InOwnQueues shareOfBuffer (λ m. m .position) x 64 freeBuffer (s .pool)
+  pub pool-in-own : InOwnQueues shareOfBuffer (λ m. m .position) x bufferCount freeBuffer (s .pool)
   pool-in-own = record { of-record = λ b slot h q o. share b slot h q ∙ o; of-queue = λ b slot h q o. sym (share b slot h q) ∙ o }
     where
-      share : (b slot : ℕ) → b < 64 → bufferAt s b .position .queue ≡ suc slot → shareOfSlot slot ≡ shareOfBuffer b
+      share : (b slot : ℕ) → b < bufferCount → bufferAt s b .position .queue ≡ suc slot → shareOfSlot slot ≡ shareOfBuffer b
       share b slot h q =
           ⊎-elim (λ u. absurd (let e = u .queue in omega arith))
           (λ u. let e : slot ≡ u .slot = let a = u .queue in omega arith in ap shareOfSlot e ∙ u .share) (buffer-rules s b _ (p .facts .buffer b h))
@@ -168,7 +169,7 @@ refusals-consistent {x} {s} {s′} e rs rs′ o o′ q = rw (← q) (go rs)
 -- x's records are as they were, and none of its tasks is woken: local respect
 pub record Respected (x : ℕ) (s : State) (o : Outcome State) : Type 0 where
   pub after : Equivalent x s (o .after)
-  pub wakes-none : (t : ℕ) → t < 32 → shareOfTask t ≡ x → bit t (o .answer .woken) ≡ 0
+  pub wakes-none : (t : ℕ) → t < taskCount → shareOfTask t ≡ x → bit t (o .answer .woken) ≡ 0
 
 bit-zero : (t : ℕ) → bit t 0 ≡ 0
 unfolding bit
@@ -180,7 +181,7 @@ pub wakes-nobody : {x : ℕ} {s : State} (o : Outcome State) → o .answer .woke
 wakes-nobody o w e = record { after = e; wakes-none = λ t h k. ap (bit t) w ∙ bit-zero t }
 
 -- the mask of tests that none of x's tasks passes
-pub mask-of-none : (x : ℕ) (F : ℕ → Task → Bool) (s : State) → Sized s → ((t : ℕ) → t < 32 → shareOfTask t ≡ x → F t (taskAt s t) ≡ false)
-    → (t : ℕ) → t < 32 → shareOfTask t ≡ x → bit t (mask (mapWithIndex F (s .tasks))) ≡ 0
+pub mask-of-none : (x : ℕ) (F : ℕ → Task → Bool) (s : State) → Sized s → ((t : ℕ) → t < taskCount → shareOfTask t ≡ x → F t (taskAt s t) ≡ false)
+    → (t : ℕ) → t < taskCount → shareOfTask t ≡ x → bit t (mask (mapWithIndex F (s .tasks))) ≡ 0
 mask-of-none x F s z e t h o =
     bit-mask (mapWithIndex F (s .tasks)) t ∙ ap one (at-mapped F (s .tasks) t (freshTask 1) false (omega (arith, z .tasks)) ∙ e t h o)

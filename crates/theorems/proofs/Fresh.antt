@@ -8,6 +8,7 @@ use lib.Dec.{eqb}
 use lib.ListN.{length, getD, length-replicate, getD-replicate}
 use borrow.Author.Tests.{eqb-true, le-leb}
 use Rattle.ranks.specs.Lists.{sumOf, allZero, within}
+use Rattle.records.specs.Layout.{bufferCount, taskCount, slotCount}
 use Rattle.records.specs.Split.{shareOfTask}
 use Rattle.records.specs.Records.{Queue, Buffer, Task, queueAt, bufferAt, taskAt, freeQueue, freeBuffer, freshTask, fresh}
 use Rattle.specification.specs.Sound.{limits, taskRules}
@@ -23,14 +24,14 @@ use Rattle.theorems.proofs.Equivalent.{Equivalent, Confined}
 
 -- as many priorities as tasks, each at least 1
 pub record Priorities (ps : List ℕ) : Type 0 where
-  pub count : length ps ≡ 32
-  pub low : (t : ℕ) → t < 32 → 1 ≤ getD ps t 0
+  pub count : length ps ≡ taskCount
+  pub low : (t : ℕ) → t < taskCount → 1 ≤ getD ps t 0
 
 pub priorities : (ps : List ℕ) → goodPriorities ps ≡ true → Priorities ps
 unfolding goodPriorities
 priorities ps e =
-    let (a, b) = both (eqb (length ps) 32) _ e in
-    let n : length ps ≡ 32 = eqb-true _ _ a in
+    let (a, b) = both (eqb (length ps) taskCount) _ e in
+    let n : length ps ≡ taskCount = eqb-true _ _ a in
     record { count = n; low = λ t h. bounds _ _ _ (every-at (λ t p. within 1 255 p) ps 0 b t (omega arith)) .0 }
 
 sum-zero : (l : List ℕ) → ((i : ℕ) → i < length l → getD l i 0 ≡ 0) → sumOf l ≡ 0
@@ -44,21 +45,21 @@ sum-zero (n ∷ l) h =
 module _ (ps : List ℕ) (pr : Priorities ps) where
   -- ---- The records
 
-  pub fresh-queue : (i : ℕ) → i < 16 → queueAt (fresh ps) i ≡ freeQueue 0
+  pub fresh-queue : (i : ℕ) → i < slotCount → queueAt (fresh ps) i ≡ freeQueue 0
   unfolding fresh
-  fresh-queue i h = getD-replicate 16 i (freeQueue 0) (freeQueue 0) h
+  fresh-queue i h = getD-replicate slotCount i (freeQueue 0) (freeQueue 0) h
 
-  pub fresh-buffer : (b : ℕ) → b < 64 → bufferAt (fresh ps) b ≡ freeBuffer
+  pub fresh-buffer : (b : ℕ) → b < bufferCount → bufferAt (fresh ps) b ≡ freeBuffer
   unfolding fresh
-  fresh-buffer b h = getD-replicate 64 b freeBuffer freeBuffer h
+  fresh-buffer b h = getD-replicate bufferCount b freeBuffer freeBuffer h
 
-  pub fresh-task : (t : ℕ) → t < 32 → taskAt (fresh ps) t ≡ freshTask (getD ps t 0)
+  pub fresh-task : (t : ℕ) → t < taskCount → taskAt (fresh ps) t ≡ freshTask (getD ps t 0)
   unfolding fresh
   fresh-task t h = at-mapped (λ t p. freshTask p) ps t 0 (freshTask 1) (omega (arith, pr .count))
 
   fresh-sized : Sized (fresh ps)
   unfolding fresh
-  fresh-sized = record { queues = length-replicate 16 (freeQueue 0); pool = length-replicate 64 freeBuffer; tasks = length-mapped _ ps ∙ pr .count }
+  fresh-sized = record { queues = length-replicate slotCount (freeQueue 0); pool = length-replicate bufferCount freeBuffer; tasks = length-mapped _ ps ∙ pr .count }
 
   -- ---- Sound
 
@@ -69,10 +70,10 @@ module _ (ps : List ℕ) (pr : Priorities ps) where
       (λ i lt.
       let n = length-mapped (adds p) (fresh ps .queues) in
       let z = fresh-sized .queues in
-      let h : i < 16 = omega arith in
+      let h : i < slotCount = omega arith in
       at-mapped (adds p) (fresh ps .queues) i (freeQueue 0) 0 (omega arith) ∙ adds-free p i (queueAt (fresh ps) i) (ap (λ (q : Queue). q .live) (fresh-queue i h)))
 
-  task-in-none : (t : ℕ) → t < 32 → taskAt (fresh ps) t .position .queue ≡ 0
+  task-in-none : (t : ℕ) → t < taskCount → taskAt (fresh ps) t .position .queue ≡ 0
   task-in-none t h = ap (λ (w : Task). w .position .queue) (fresh-task t h)
 
   pub fresh-sound : SoundFacts (fresh ps)
@@ -89,8 +90,8 @@ module _ (ps : List ℕ) (pr : Priorities ps) where
         buffer = λ b h. rw (fresh-buffer b h) (free-sound′ _ b);
         messages =
             λ i h.
-            rw (fresh-queue i h) (nobody 64 _ i (λ b hb q. let e = ap (λ (m : Buffer). m .position .queue) (fresh-buffer b hb) in omega arith));
-        waiters = λ i h. rw (fresh-queue i h) (nobody 32 _ i (λ t ht q. let e = task-in-none t ht in omega arith));
+            rw (fresh-queue i h) (nobody bufferCount _ i (λ b hb q. let e = ap (λ (m : Buffer). m .position .queue) (fresh-buffer b hb) in omega arith));
+        waiters = λ i h. rw (fresh-queue i h) (nobody taskCount _ i (λ t ht q. let e = task-in-none t ht in omega arith));
         order = λ i h p a b ha hb qa qb lt. absurd (let e = task-in-none a ha in omega arith);
         task =
             λ t h.
@@ -122,7 +123,7 @@ module _ (ps : List ℕ) (pr : Priorities ps) where
 
 -- fresh tables in which the tasks of x have the same priorities
 pub fresh-equivalent : (x : ℕ) (ps ps′ : List ℕ) → Priorities ps → Priorities ps′
-    → ((t : ℕ) → t < 32 → shareOfTask t ≡ x → getD ps t 0 ≡ getD ps′ t 0) → Equivalent x (fresh ps) (fresh ps′)
+    → ((t : ℕ) → t < taskCount → shareOfTask t ≡ x → getD ps t 0 ≡ getD ps′ t 0) → Equivalent x (fresh ps) (fresh ps′)
 fresh-equivalent x ps ps′ p p′ e =
     record {
       queues = λ i h o. fresh-queue ps p i h ∙ sym (fresh-queue ps′ p′ i h);

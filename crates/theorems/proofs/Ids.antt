@@ -1,35 +1,34 @@
 -- No id is issued twice: a slot's generation never falls, and a create raises it above every id issued before. Assumes nothing.
-use Prim.Native.Nat.{ℕ, zero, suc, _+_, _*_, _/_, _%_, _≤_, _<_}
+use Prim.Native.Nat.{ℕ, suc, _+_, _≤_, _<_}
 use native.Mathlib.Nat.{le-refl, le-trans}
 use native.Mathlib.Omega.{arith}
 use mathlib.Core.Path.{_≡_, refl, sym, ap, _∙_, subst}
-use mathlib.Core.Bool.{Bool, true, false, not, _&&_, _||_, false≢true}
+use mathlib.Core.Bool.{Bool, true, false, not, _&&_}
 use mathlib.Core.List.{List, [], _∷_, _++_}
 use lib.Dec.{eqb}
-use lib.ListN.{length, getD}
-use borrow.Author.Tests.{leb-false, ne-eqb}
+use borrow.Author.Tests.{ne-eqb}
 use Rattle.ranks.specs.Lists.{if_then_else_, mapWithIndex, numbersFrom}
 use Rattle.records.specs.Split.{shareOfTask}
-use Rattle.records.specs.Layout.{slotOf, generationOf, idOf}
+use Rattle.records.specs.Layout.{slotOf, generationOf, idOf, slotCount, taskCount}
+use Rattle.records.specs.Status.{SUCCESSFUL}
 use Rattle.records.specs.Records.{Queue, Task, State, queueAt, taskAt, freeQueue}
 use Rattle.records.specs.Changes.{atIndex}
 use Rattle.specification.specs.Answer.{Answer, Outcome, refuse}
 use Rattle.specification.specs.Call.{Operation, Call, delete, send, urgent, broadcast, receive, getNumberPending, flush, create, ident, onQueue, call, tick}
 use Rattle.specification.specs.Lookup.{hasWaiter, hasMessage, leave}
 use Rattle.specification.specs.Tick.{tickTask, tickTasks, expires, isTimed}
-use Rattle.specification.specs.Run.{Event}
 use Rattle.specification.specs.Step.{commonRefusals, directiveRefusals, ownRefusals, operationEffect, effect}
 use Rattle.theorems.specs.Demands.{isCreate, issued, distinct}
 use Rattle.theorems.specs.QueueLists.{member}
 use Rattle.ranks.proofs.Lists.{at-mapped}
 use Rattle.ranks.proofs.Tests.{and}
 use Rattle.specification.proofs.OnRecords.{callOnRecords, eventsOnRecords}
-use Rattle.specification.proofs.Refused.{None, none-right, refused-with, refused-or}
+use Rattle.specification.proofs.Refused.{None, refused-with, refused-or}
+use Rattle.specification.proofs.Accepted.{Accepted, accepted-facts, creatable}
 use Rattle.specification.proofs.SoundFacts.{Sized, SoundFacts}
 use Rattle.theorems.proofs.Demand1.{call-statuses}
 use Rattle.theorems.proofs.KeptQueues.{at-here, at-both}
 use Rattle.theorems.proofs.SoundCall.{call-sound}
-use Rattle.theorems.proofs.SoundCreate.{slot-found}
 use Rattle.theorems.proofs.SoundTick.{Below, below-range, tickTask-sound}
 use Rattle.specification.specs.Create
 use Rattle.specification.specs.Ident
@@ -45,7 +44,7 @@ use Rattle.theorems.proofs.CountChange
 -- ---- Generations never fall
 
 Grows : State → State → Type 0
-Grows s s′ = (i : ℕ) → i < 16 → queueAt s i .generation ≤ queueAt s′ i .generation
+Grows s s′ = (i : ℕ) → i < slotCount → queueAt s i .generation ≤ queueAt s′ i .generation
 
 same-queues : (s s′ : State) → s′ .queues ≡ s .queues → Grows s s′
 unfolding Grows
@@ -73,7 +72,7 @@ tickTask-grows s z t =
     either-grows s (expires (taskAt s t)) _ _ (leave-grows s z t _ _ _)
     (either-grows s (isTimed (taskAt s t)) _ s (same-queues s _ refl) (same-queues s s refl))
 
-tickTasks-grows : (s : State) (ts : List ℕ) → SoundFacts s → Below 32 ts → Grows s (tickTasks s ts)
+tickTasks-grows : (s : State) (ts : List ℕ) → SoundFacts s → Below taskCount ts → Grows s (tickTasks s ts)
 unfolding tickTasks Grows
 tickTasks-grows s [] g b i h = le-refl _
 tickTasks-grows s (t ∷ ts) g b i h =
@@ -105,7 +104,7 @@ module _ (s : State) (g : SoundFacts s) where
   effect-grows (call caller (create name limit maxSize attributes)) = one-queue s _ z _ _ (λ q. omega arith) refl
   effect-grows (call caller (ident name share)) = same-queues s s refl
   effect-grows (call caller (onQueue id o)) = operation-grows caller (slotOf id) o
-  effect-grows tick = tickTasks-grows s (numbersFrom 0 32) g (below-range 32 0 32 (omega arith))
+  effect-grows tick = tickTasks-grows s (numbersFrom 0 taskCount) g (below-range taskCount 0 taskCount (omega arith))
 
   call-grows : (c : Call) → Grows s (callOnRecords s c .after)
   unfolding callOnRecords
@@ -134,27 +133,27 @@ not-newer s n e (m ∷ ns) k =
 
 -- what an event adds to the ids
 adds : Call → Answer → List ℕ → List ℕ
-adds c a ns = if isCreate c && eqb (a .status) 0 then a .value ∷ ns else ns
+adds c a ns = if isCreate c && eqb (a .status) SUCCESSFUL then a .value ∷ ns else ns
 
 -- An outcome of a call: nothing is issued, or the id of a slot whose generation it raised.
 Issues : State → Call → Outcome State → Type 0
 Issues s c o = (ns : List ℕ) → Newer (o .after) ns → distinct ns ≡ true → (distinct (adds c (o .answer) ns) ≡ true) × Newer s (adds c (o .answer) ns)
 
-none-issued : (s : State) (c : Call) (o : Outcome State) → Grows s (o .after) → isCreate c && eqb (o .answer .status) 0 ≡ false → Issues s c o
+none-issued : (s : State) (c : Call) (o : Outcome State) → Grows s (o .after) → isCreate c && eqb (o .answer .status) SUCCESSFUL ≡ false → Issues s c o
 unfolding Issues adds
 none-issued s c o up e ns k d = rw e (d, newer-grown s (o .after) up ns k)
 
 -- the slot and the generation of an id
-id-slot : (generation slot : ℕ) → slot < 16 → slotOf (idOf generation slot) ≡ slot
+id-slot : (generation slot : ℕ) → slot < slotCount → slotOf (idOf generation slot) ≡ slot
 unfolding idOf
 id-slot generation slot h = omega arith
 
-id-generation : (generation slot : ℕ) → slot < 16 → generationOf (idOf generation slot) ≡ generation
+id-generation : (generation slot : ℕ) → slot < slotCount → generationOf (idOf generation slot) ≡ generation
 unfolding idOf
 id-generation generation slot h = omega arith
 
 module _ (s : State) (g : SoundFacts s) where
-  created : (slot name limit maxSize attributes caller : ℕ) → slot < 16
+  created : (slot name limit maxSize attributes caller : ℕ) → slot < slotCount
       → Issues s (call caller (create name limit maxSize attributes)) (Create.effect s slot name limit maxSize attributes)
   unfolding Issues adds isCreate Create.effect distinct Newer
   created slot name limit maxSize attributes caller h ns k d =
@@ -189,21 +188,21 @@ module _ (s : State) (g : SoundFacts s) where
 
   -- every call issues at most one id, and that a new one
   create-issues : (caller name limit maxSize attributes : ℕ) → Issues s (call caller (create name limit maxSize attributes)) (callOnRecords s (call caller (create name limit maxSize attributes)))
-  unfolding callOnRecords effect ownRefusals directiveRefusals Create.refusals isCreate
+  unfolding callOnRecords effect Accepted directiveRefusals isCreate
   create-issues caller name limit maxSize attributes =
       refused-with (Issues s c) s (commonRefusals s c ++ ownRefusals s c) (effect s c) (call-statuses s c)
-      (λ n h. none-issued s c (refuse s n) (same-queues s s refl) (refused n (h .0))) accepted
+      (λ n h. none-issued s c (refuse s n) (same-queues s s refl) (refused n (h .0))) issued
     where
       c : Call
       c = call caller (create name limit maxSize attributes)
 
-      refused : (n : ℕ) → 1 ≤ n → eqb n 0 ≡ false
-      refused n h = ne-eqb n 0 (λ e. omega arith)
+      refused : (n : ℕ) → 1 ≤ n → eqb n SUCCESSFUL ≡ false
+      refused n h = ne-eqb n SUCCESSFUL (λ e. omega arith)
 
-      accepted : None (commonRefusals s c ++ ownRefusals s c) → Issues s c (effect s c)
-      accepted n =
-          let (_, (_, (_, (_, (free, _))))) = none-right (commonRefusals s c) (ownRefusals s c) n in
-          created (Create.freeSlot s (shareOfTask caller)) name limit maxSize attributes caller (leb-false _ _ free)
+      issued : None (commonRefusals s c ++ ownRefusals s c) → Issues s c (effect s c)
+      issued n =
+          created (Create.freeSlot s (shareOfTask caller)) name limit maxSize attributes caller
+          (creatable s (shareOfTask caller) name limit maxSize attributes (accepted-facts s c n .directive) .slotBelow)
 
   call-issues : (c : Call) → Issues s c (callOnRecords s c)
   unfolding isCreate

@@ -1,24 +1,23 @@
 -- What a change of a queue's counts leaves as it was. Assumes nothing.
-use Prim.Native.Nat.{ℕ, zero, suc, pred, _+_, _-_, _/_, _%_, _≤_, _<_}
+use Prim.Native.Nat.{ℕ, suc, _/_, _%_, _≤_, _<_}
 use native.Mathlib.Omega.{arith}
 use mathlib.Core.Path.{_≡_, refl, sym, ap, ap₂, _∙_, subst}
-use mathlib.Core.Bool.{Bool, true, false, _&&_, _||_}
+use mathlib.Core.Bool.{Bool, true, _&&_, _||_}
 use mathlib.Core.Logic.{_⊎_, inl, inr, ⊎-elim}
-use mathlib.Core.List.{List, [], _∷_}
-use lib.Dec.{eqb, leb, ltb}
-use lib.ListN.{length, getD}
+use lib.Dec.{eqb}
 use borrow.Author.Tests.{eq-eqb, ne-eqb}
-use Rattle.ranks.specs.Lists.{if_then_else_, mapWithIndex, allTrue, sumOf}
+use Rattle.records.specs.Layout.{slotCount, taskCount}
+use Rattle.ranks.specs.Lists.{if_then_else_, allTrue, sumOf}
 use Rattle.records.specs.Split.{shareOfSlot, shareOfTask}
 use Rattle.ranks.specs.Position.{Position}
-use Rattle.records.specs.Records.{Queue, Buffer, Task, State, queueAt, bufferAt, taskAt, freeQueue, isLive, isOpen, hasPriority}
+use Rattle.records.specs.Records.{Queue, Buffer, Task, State, queueAt, taskAt, freeQueue}
 use Rattle.specification.specs.Sound.{limits, soundQueue, soundBuffer, soundTask, taskRules}
 use Rattle.records.specs.Changes.{atIndex, withCounts, withPending, withWaiters, moveBuffer, moveTask}
 use Rattle.ranks.proofs.Ranks.{Moved}
-use Rattle.ranks.proofs.Lists.{mapped-cong, at-mapped}
+use Rattle.ranks.proofs.Lists.{mapped-cong}
 use Rattle.ranks.proofs.Tests.{same?}
-use Rattle.specification.proofs.Rules.{size-same, Live, Free, Used, Unused, Ready, Waiting, queue-rules, live-sound, free-sound, buffer-rules, used-sound, unused-sound, task-rules, ready-sound, waiting-sound}
-use Rattle.specification.proofs.SoundFacts.{Sized, SoundFacts, Ordered}
+use Rattle.specification.proofs.Rules.{size-same, Live, Free, Used, Unused, Ready, Waiting, queue-rules, buffer-rules, used-sound, unused-sound, task-rules, ready-sound, waiting-sound}
+use Rattle.specification.proofs.SoundFacts.{Sized, Ordered}
 
 -- ---- One record changed
 
@@ -85,8 +84,11 @@ pub record Same (q q′ : Queue) : Type 0 where
 pub same : (q : Queue) → Same q q
 same q = record { live = refl; attributes = refl; limit = refl; maxSize = refl }
 
+pub same-but-counts : (q : Queue) (pending waiters : ℕ) → Same q (withCounts pending waiters q)
+same-but-counts q pending waiters = record { live = refl; attributes = refl; limit = refl; maxSize = refl }
+
 abbrev pub Kept : State → State → Type 0
-Kept s s′ = (i : ℕ) → i < 16 → Same (queueAt s i) (queueAt s′ i)
+Kept s s′ = (i : ℕ) → i < slotCount → Same (queueAt s i) (queueAt s′ i)
 
 pub limits-kept : (s s′ : State) → Sized s → Sized s′ → Kept s s′ → (p : ℕ) → limits s′ p ≡ limits s p
 unfolding limits
@@ -103,7 +105,7 @@ used-same s s′ b m u e =
     record {
       slot = u .slot;
       queue = u .queue;
-      within16 = u .within16;
+      slotBelow = u .slotBelow;
       live = e .live ∙ u .live;
       share = u .share;
       size = size-same _ _ _ (e .maxSize) (u .size);
@@ -112,7 +114,7 @@ used-same s s′ b m u e =
     }
 
 pub used-kept : {s s′ : State} {b : ℕ} {m : Buffer} → Kept s s′ → Used s b m → Used s′ b m
-used-kept {s} {s′} {b} {m} k u = used-same s s′ b m u (k (u .slot) (u .within16))
+used-kept {s} {s′} {b} {m} k u = used-same s s′ b m u (k (u .slot) (u .slotBelow))
 
 pub buffer-kept : (s s′ : State) (b : ℕ) (m : Buffer) → Kept s s′ → soundBuffer s b m ≡ true → soundBuffer s′ b m ≡ true
 buffer-kept s s′ b m k e = ⊎-elim (λ u. unused-sound s′ b m u) (λ u. used-sound s′ b m (used-kept k u)) (buffer-rules s b m e)
@@ -127,7 +129,7 @@ waiting-like s s′ t w w′ u e rules state queue status size =
       state = state ∙ u .state;
       slot = u .slot;
       queue = queue ∙ u .queue;
-      within16 = u .within16;
+      slotBelow = u .slotBelow;
       live = e .live ∙ u .live;
       access = subst (λ (n : ℕ). (eqb (shareOfSlot (u .slot)) (shareOfTask t) || eqb (n / 2 % 2) 1) ≡ true) (sym (e .attributes)) (u .access);
       status = status ∙ u .status;
@@ -139,7 +141,7 @@ pub waiting-same : (s s′ : State) (t : ℕ) (w : Task) (u : Waiting s t w) →
 waiting-same s s′ t w u e = waiting-like s s′ t w w u e (u .rules) refl refl refl refl
 
 pub waiting-kept : {s s′ : State} {t : ℕ} {w : Task} → Kept s s′ → Waiting s t w → Waiting s′ t w
-waiting-kept {s} {s′} {t} {w} k u = waiting-same s s′ t w u (k (u .slot) (u .within16))
+waiting-kept {s} {s′} {t} {w} k u = waiting-same s s′ t w u (k (u .slot) (u .slotBelow))
 
 pub task-kept : (s s′ : State) (t : ℕ) (w : Task) → Kept s s′ → soundTask s t w ≡ true → soundTask s′ t w ≡ true
 task-kept s s′ t w k e = ⊎-elim (λ r. ready-sound s′ t w r) (λ u. waiting-sound s′ t w (waiting-kept k u)) (task-rules s t w e)
@@ -161,14 +163,14 @@ moved-buffer s s′ b m p k (q, stay) e = ⊎-elim unused used (buffer-rules s b
         (record {
           slot = u .slot;
           queue = q ∙ u .queue;
-          within16 = u .within16;
+          slotBelow = u .slotBelow;
           live = u .live;
           share = u .share;
           size = u .size;
           reserved = u .reserved;
           rest = u .rest;
         })
-        (k (u .slot) (u .within16)))
+        (k (u .slot) (u .slotBelow)))
 
 pub moved-task : (s s′ : State) (t : ℕ) (w : Task) (p : Position) → Kept s s′ → Moved (w .position) p → soundTask s t w ≡ true
     → soundTask s′ t (moveTask p w) ≡ true
@@ -179,10 +181,10 @@ moved-task s s′ t w p k (q, stay) e = ⊎-elim ready waits (task-rules s t w e
     ready r = subst (λ (x : Position). soundTask s′ t (moveTask x w) ≡ true) (sym (stay (r .queue))) (ready-sound s′ t w r)
 
     waits : Waiting s t w → soundTask s′ t (moveTask p w) ≡ true
-    waits u = waiting-sound s′ t _ (waiting-like s s′ t w (moveTask p w) u (k (u .slot) (u .within16)) (u .rules) refl q refl refl)
+    waits u = waiting-sound s′ t _ (waiting-like s s′ t w (moveTask p w) u (k (u .slot) (u .slotBelow)) (u .rules) refl q refl refl)
 
 -- the order stays if the tasks in the queue are as they were
-pub ordered-kept : (s s′ : State) (i : ℕ) → ((j : ℕ) → j < 32 → taskAt s′ j .position .queue ≡ suc i → taskAt s′ j ≡ taskAt s j) → Ordered s i → Ordered s′ i
+pub ordered-kept : (s s′ : State) (i : ℕ) → ((j : ℕ) → j < taskCount → taskAt s′ j .position .queue ≡ suc i → taskAt s′ j ≡ taskAt s j) → Ordered s i → Ordered s′ i
 ordered-kept s s′ i e o a b ha hb qa qb lt =
     let ea = e a ha qa in
     let eb = e b hb qb in

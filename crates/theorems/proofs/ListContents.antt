@@ -12,6 +12,7 @@ use borrow.Author.Tests.{eqb-true, eqb-false, eq-eqb}
 use Rattle.ranks.specs.Lists.{if_then_else_, mapWithIndex, findIndex, mask, numbersFrom}
 use Rattle.ranks.specs.Position.{Position, inQueue}
 use Rattle.ranks.specs.Steps.{byRank}
+use Rattle.records.specs.Layout.{slotCount, bufferCount, taskCount}
 use Rattle.records.specs.Changes.{atIndex, withWaiters, moveTask}
 use Rattle.records.specs.Records.{Queue, Buffer, Task, State, queueAt, bufferAt, taskAt, freeBuffer, freshTask, messageIn}
 use Rattle.specification.specs.Lookup.{waitersOf}
@@ -20,17 +21,17 @@ use Rattle.ranks.proofs.Lists.{at-mapped, length-mapped, first-true, first-leas
 use Rattle.ranks.proofs.Tests.{or, or-left, or-right}
 use Rattle.ranks.proofs.Ranks.{Agree}
 use Rattle.ranks.proofs.ByRank.{RankedTable, by-rank-listed, length-by-rank, in-list, same-list}
-use Rattle.specification.proofs.SoundFacts.{Sized, SoundFacts}
-use Rattle.theorems.proofs.FieldsInRange.{buffers-ranked, tasks-ranked}
+use Rattle.specification.proofs.SoundFacts.{Sized, SoundFacts, buffers-ranked, tasks-ranked}
 use Rattle.theorems.proofs.ListSteps.{by-number, map-by-rank}
 use Rattle.theorems.proofs.CountChange
+use Rattle.theorems.proofs.CountChange.{QueueChanged}
 
 -- ---- Queues that are as they were
 
-module _ {s : State} (g : SoundFacts s) (i : ℕ) (i< : i < 16) (s′ : State) (z′ : Sized s′) where
+module _ {s : State} (g : SoundFacts s) (i : ℕ) (i< : i < slotCount) (s′ : State) (z′ : Sized s′) where
   -- the queue's buffers are where they were, and hold what they held
-  pub same-messages : queueAt s′ i .pending ≡ queueAt s i .pending → ((j : ℕ) → j < 64 → Agree i (bufferAt s j .position) (bufferAt s′ j .position))
-      → ((j : ℕ) → j < 64 → bufferAt s j .position .queue ≡ suc i → messageIn (bufferAt s′ j) ≡ messageIn (bufferAt s j))
+  pub same-messages : queueAt s′ i .pending ≡ queueAt s i .pending → ((j : ℕ) → j < bufferCount → Agree i (bufferAt s j .position) (bufferAt s′ j .position))
+      → ((j : ℕ) → j < bufferCount → bufferAt s j .position .queue ≡ suc i → messageIn (bufferAt s′ j) ≡ messageIn (bufferAt s j))
       → contents s′ i .messages ≡ contents s i .messages
   unfolding contents
   same-messages e ag held =
@@ -38,7 +39,7 @@ module _ {s : State} (g : SoundFacts s) (i : ℕ) (i< : i < 16) (s′ : State) (
       ∙ ap (λ (l : List ℕ). map (λ b. messageIn (bufferAt s′ b)) l) (same-list (buffers-ranked s g i i<) (s′ .pool) (z′ .pool) ag)
       ∙ map-by-rank (buffers-ranked s g i i<) _ _ held
 
-  pub same-waiters : queueAt s′ i .waiters ≡ queueAt s i .waiters → ((j : ℕ) → j < 32 → Agree i (taskAt s j .position) (taskAt s′ j .position))
+  pub same-waiters : queueAt s′ i .waiters ≡ queueAt s i .waiters → ((j : ℕ) → j < taskCount → Agree i (taskAt s j .position) (taskAt s′ j .position))
       → contents s′ i .waiters ≡ contents s i .waiters
   unfolding contents
   same-waiters e ag =
@@ -55,17 +56,16 @@ module _ (s s′ : State) (i : ℕ) where
   same-tasks p e = ap₂ (λ (n : ℕ) (ws : List Task). byRank (λ (w : Task). w .position) i n ws) e p
 
 -- The counts of one queue change, and the table of messages, or of waiters, does not.
-module _ {s : State} (g : SoundFacts s) (slot : ℕ) (slot< : slot < 16) (s′ : State) (z′ : Sized s′) (h : Queue → Queue)
-    (e : s′ .queues ≡ mapWithIndex (atIndex slot h) (s .queues)) where
-  pub kept-messages : s′ .pool ≡ s .pool → h (queueAt s slot) .pending ≡ queueAt s slot .pending → (i : ℕ) → i < 16
+module _ {s s′ : State} {slot : ℕ} {h : Queue → Queue} (change : QueueChanged s s′ slot h) where
+  pub kept-messages : s′ .pool ≡ s .pool → h (queueAt s slot) .pending ≡ queueAt s slot .pending → (i : ℕ) → i < slotCount
       → contents s′ i .messages ≡ contents s i .messages
   kept-messages p c i i< =
-      same-pool s s′ i p (CountChange.of-each s s′ g z′ slot slot< h e (λ i q. q .pending ≡ queueAt s i .pending) c (λ i h. refl) i i<)
+      same-pool s s′ i p (CountChange.of-each change (λ i q. q .pending ≡ queueAt s i .pending) c (λ i h. refl) i i<)
 
-  pub kept-waiters : s′ .tasks ≡ s .tasks → h (queueAt s slot) .waiters ≡ queueAt s slot .waiters → (i : ℕ) → i < 16
+  pub kept-waiters : s′ .tasks ≡ s .tasks → h (queueAt s slot) .waiters ≡ queueAt s slot .waiters → (i : ℕ) → i < slotCount
       → contents s′ i .waiters ≡ contents s i .waiters
   kept-waiters p c i i< =
-      same-tasks s s′ i p (CountChange.of-each s s′ g z′ slot slot< h e (λ i q. q .waiters ≡ queueAt s i .waiters) c (λ i h. refl) i i<)
+      same-tasks s s′ i p (CountChange.of-each change (λ i q. q .waiters ≡ queueAt s i .waiters) c (λ i h. refl) i i<)
 
 -- both lists are equal
 pub both-lists : {q q′ : Contents} → q .messages ≡ q′ .messages → q .waiters ≡ q′ .waiters → q ≡ q′
@@ -129,9 +129,9 @@ in-by-rank {A} {position} {a} {N} {slot} {n} {xs} table t h = go (inQueue slot (
 
 -- ---- Masks
 
-pub mask-of : {A : Type 0} (f : ℕ → A → Bool) (xs : List A) (a : A) (l : List ℕ) → length xs ≡ 32 → ((k : ℕ) → k < 32 → f k (getD xs k a) ≡ member k l)
+pub mask-of : {A : Type 0} (f : ℕ → A → Bool) (xs : List A) (a : A) (l : List ℕ) → length xs ≡ taskCount → ((k : ℕ) → k < taskCount → f k (getD xs k a) ≡ member k l)
     → mask (mapWithIndex f xs) ≡ maskOf l
-mask-of f xs a l long same = ap mask (by-number f (λ t. member t l) xs a false 32 long same)
+mask-of f xs a l long same = ap mask (by-number f (λ t. member t l) xs a false taskCount long same)
 
 pub mask-none : 0 ≡ maskOf []
 unfolding mask numbersFrom member
@@ -159,15 +159,13 @@ changed-queue f own true q q′ h e = subst (SameButCounts (own q)) (sym e) h
 changed-queue f own false q q′ h e = subst (SameButCounts q) (sym e) refl
 
 -- the queue in the slot is changed by h, which is own but for its counts
-pub changed-queues : {s : State} (g : SoundFacts s) (slot : ℕ) (slot< : slot < 16) (s′ : State) (z′ : Sized s′) (h own : Queue → Queue)
-    → s′ .queues ≡ mapWithIndex (atIndex slot h) (s .queues) → ((q : Queue) → SameButCounts (own q) (h q)) → (i : ℕ) → i < 16
-    → SameButCounts (atIndex slot own i (queueAt s i)) (queueAt s′ i)
-changed-queues {s} g slot slot< s′ z′ h own e counts i i< =
-    changed-queue h own (eqb i slot) _ _ (counts (queueAt s i)) (CountChange.after s s′ g z′ slot slot< h e i i<)
+pub changed-queues : {s s′ : State} {slot : ℕ} {h : Queue → Queue} → QueueChanged s s′ slot h → (own : Queue → Queue) → ((q : Queue) → SameButCounts (own q) (h q))
+    → (i : ℕ) → i < slotCount → SameButCounts (atIndex slot own i (queueAt s i)) (queueAt s′ i)
+changed-queues {s} {s′} {slot} {h} change own counts i i< = changed-queue h own (eqb i slot) _ _ (counts (queueAt s i)) (CountChange.after change i i<)
 
 -- ---- Lists and counts
 
-module _ {s : State} (g : SoundFacts s) (slot : ℕ) (slot< : slot < 16) where
+module _ {s : State} (g : SoundFacts s) (slot : ℕ) (slot< : slot < slotCount) where
   pub waiters-mask : mask (waitersOf slot (s .tasks)) ≡ maskOf (contents s slot .waiters)
   unfolding waitersOf contents
   waiters-mask = mask-of _ (s .tasks) (freshTask 1) _ (g .sized .tasks) (λ k h. in-by-rank (tasks-ranked s g slot slot<) k h)
@@ -181,6 +179,6 @@ module _ {s : State} (g : SoundFacts s) (slot : ℕ) (slot< : slot < 16) where
   count-messages = sym (length-map (byRank (λ (m : Buffer). m .position) slot (queueAt s slot .pending) (s .pool)) _ ∙ length-by-rank (buffers-ranked s g slot slot<))
 
   -- a task is in the queue exactly if it is one of its waiters
-  pub waits-in : (k : ℕ) → k < 32 → inQueue slot (taskAt s k .position) ≡ member k (contents s slot .waiters)
+  pub waits-in : (k : ℕ) → k < taskCount → inQueue slot (taskAt s k .position) ≡ member k (contents s slot .waiters)
   unfolding contents
   waits-in k h = in-by-rank (tasks-ranked s g slot slot<) k h

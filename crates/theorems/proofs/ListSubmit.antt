@@ -12,6 +12,7 @@ use borrow.Author.Tests.{ltb-true, ltb-false}
 use Rattle.ranks.specs.Lists.{if_then_else_}
 use Rattle.ranks.specs.Position.{Position, positionAt}
 use Rattle.ranks.specs.Steps.{inserted, byRank}
+use Rattle.records.specs.Layout.{slotCount, bufferCount, taskCount}
 use Rattle.records.specs.Split.{shareOfSlot}
 use Rattle.records.specs.Records.{Queue, Buffer, State, queueAt, bufferAt, taskAt, freeBuffer, freshTask, messageIn}
 use Rattle.records.specs.Changes.{withPending, moveBuffer, messageBuffer, withMessage}
@@ -22,17 +23,17 @@ use Rattle.theorems.specs.QueueLists.{contents, leaves, submit, member, 
 use Rattle.ranks.proofs.Tests.{same?}
 use Rattle.ranks.proofs.Ranks.{in-itself, in-stays}
 use Rattle.ranks.proofs.ByRank.{Changed, inserted-list}
-use Rattle.specification.proofs.SoundFacts.{Sized, SoundFacts}
-use Rattle.theorems.proofs.FieldsInRange.{buffers-ranked}
+use Rattle.specification.proofs.SoundFacts.{Sized, SoundFacts, buffers-ranked}
 use Rattle.theorems.proofs.SoundSubmit.{first-waits, none-waits, free-found, Submitted}
 use Rattle.theorems.proofs.ListSteps.{map-put, map-by-rank, stepped-here, stepped-other, stepped-changed, inserted-agree}
 use Rattle.theorems.proofs.ListContents.{same-messages, kept-waiters, both-lists, first-lowest, no-waiters, mask-of, mask-none, own-kept, changed-queues}
 use Rattle.theorems.proofs.ListLeave.{Leaves, leave-lists}
 use Rattle.theorems.proofs.CountChange
+use Rattle.theorems.proofs.CountChange.{QueueChanged}
 
 -- ---- A message that is queued
 
-module _ {s : State} (g : SoundFacts s) (b slot rank : ℕ) (message : List ℕ) (b< : b < 64) (slot< : slot < 16) (free : bufferAt s b .position .queue ≡ 0)
+module _ {s : State} (g : SoundFacts s) (b slot rank : ℕ) (message : List ℕ) (b< : b < bufferCount) (slot< : slot < slotCount) (free : bufferAt s b .position .queue ≡ 0)
     (le : rank ≤ queueAt s slot .pending) (z′ : Sized (enqueued s b slot rank message .after)) where
   abbrev s′ : State
   s′ = enqueued s b slot rank message .after
@@ -43,13 +44,17 @@ module _ {s : State} (g : SoundFacts s) (b slot rank : ℕ) (message : List ℕ)
   abbrev new : Buffer → Buffer
   new m = messageBuffer (positionAt slot rank) message
 
-  changed : Changed (λ (m : Buffer). m .position) freeBuffer 64 (s .pool) (s′ .pool) (inserted b slot rank)
+  change : QueueChanged s s′ slot more
+  unfolding enqueued
+  change = record { facts = g; sized = z′; inside = slot<; queues = refl }
+
+  changed : Changed (λ (m : Buffer). m .position) freeBuffer bufferCount (s .pool) (s′ .pool) (inserted b slot rank)
   unfolding enqueued
   changed =
       stepped-changed (buffers-ranked s g slot slot<) moveBuffer b new (inserted b slot rank) (λ p m. refl) (λ m. sym (in-itself b slot rank (m .position)))
 
   -- a buffer in use holds what it held
-  held : (i j : ℕ) → j < 64 → bufferAt s j .position .queue ≡ suc i → messageIn (bufferAt s′ j) ≡ messageIn (bufferAt s j)
+  held : (i j : ℕ) → j < bufferCount → bufferAt s j .position .queue ≡ suc i → messageIn (bufferAt s′ j) ≡ messageIn (bufferAt s j)
   unfolding enqueued
   held i j h q =
       ap messageIn
@@ -66,19 +71,19 @@ module _ {s : State} (g : SoundFacts s) (b slot rank : ℕ) (message : List ℕ)
   messages =
       let f : ℕ → List ℕ = λ j. messageIn (bufferAt s′ j) in
       ap (λ (n : ℕ). map f (byRank (λ (m : Buffer). m .position) slot n (s′ .pool)))
-      (ap (λ (q : Queue). q .pending) (CountChange.here s s′ g z′ slot slot< more refl))
+      (ap (λ (q : Queue). q .pending) (CountChange.here change))
       ∙ ap (map f) (inserted-list (buffers-ranked s g slot slot<) (s′ .pool) (z′ .pool) b rank b< free le changed)
       ∙ map-put f _ rank b
       ∙ ap₂ (λ (m : List ℕ) (ms : List (List ℕ)). take rank ms ++ m ∷ drop rank ms) new-message (map-by-rank (buffers-ranked s g slot slot<) _ _ (held slot))
 
-  other : (i : ℕ) → i < 16 → (i ≡ slot → ⊥) → contents s′ i .messages ≡ contents s i .messages
+  other : (i : ℕ) → i < slotCount → (i ≡ slot → ⊥) → contents s′ i .messages ≡ contents s i .messages
   unfolding enqueued
   other i i< ne =
-      same-messages g i i< s′ z′ (ap (λ (q : Queue). q .pending) (CountChange.other s s′ g z′ slot slot< more refl i i< ne))
+      same-messages g i i< s′ z′ (ap (λ (q : Queue). q .pending) (CountChange.other change i i< ne))
       (inserted-agree (buffers-ranked s g i i<) (s′ .pool) b slot rank ne free changed) (held i)
 
   -- a free buffer that is not free any more is the one that the message is put into
-  is-used : (j : ℕ) → j < 64 → bufferAt s j .position .queue ≡ 0 → (bufferAt s′ j .position .queue ≡ 0 → ⊥) → b ≡ j
+  is-used : (j : ℕ) → j < bufferCount → bufferAt s j .position .queue ≡ 0 → (bufferAt s′ j .position .queue ≡ 0 → ⊥) → b ≡ j
   is-used j h free used =
       ⊎-elim sym (λ ne. absurd (used (ap (λ (p : Position). p .queue) (changed j h ∙ in-stays b slot rank j _ ne (λ z. omega arith)) ∙ free))) (same? j b)
 
@@ -94,12 +99,12 @@ module _ {s : State} (g : SoundFacts s) (b slot rank : ℕ) (message : List ℕ)
         value = refl;
         woken = mask-none;
         tasks = λ k h. refl;
-        queues = changed-queues g slot slot< s′ z′ more (λ q. q) refl (λ q. refl);
+        queues = changed-queues change (λ q. q) (λ q. refl);
         queued = λ j h free used. subst (Lowest (λ j. isFreeOf (shareOfSlot slot) j (bufferAt s j))) (is-used j h free used) lowest;
       }
     where
-      waiters : (i : ℕ) → i < 16 → contents s′ i .waiters ≡ contents s i .waiters
-      waiters = kept-waiters g slot slot< s′ z′ more refl refl refl
+      waiters : (i : ℕ) → i < slotCount → contents s′ i .waiters ≡ contents s i .waiters
+      waiters = kept-waiters change refl refl
 
 -- ---- A message that a waiter gets
 
@@ -107,7 +112,7 @@ alone : (k t : ℕ) → eqb k t ≡ member k (t ∷ [])
 unfolding member
 alone k t = sym (or-false (eqb k t))
 
-delivered-lists : {s : State} (g : SoundFacts s) (t slot : ℕ) (message : List ℕ) (slot< : slot < 16) → Leaves s t slot 0 (withMessage message) (delivered s t slot message .after)
+delivered-lists : {s : State} (g : SoundFacts s) (t slot : ℕ) (message : List ℕ) (slot< : slot < slotCount) → Leaves s t slot 0 (withMessage message) (delivered s t slot message .after)
     → OperationOnLists s slot (delivered s t slot message)
     (leaves (contents s slot .messages) (contents (delivered s t slot message .after) slot .waiters) (t ∷ []) 0)
     (λ k w. if member k (t ∷ []) then withMessage message w else w) (λ q. q)
@@ -129,7 +134,7 @@ delivered-lists {s} g t slot message slot< l =
 
 -- ---- Send and urgent
 
-module _ {s : State} (g : SoundFacts s) (slot rank : ℕ) (message : List ℕ) (slot< : slot < 16) (ok : Submitted s slot message)
+module _ {s : State} (g : SoundFacts s) (slot rank : ℕ) (message : List ℕ) (slot< : slot < slotCount) (ok : Submitted s slot message)
     (le : rank ≤ queueAt s slot .pending) (enqueue : List (List ℕ) → List (List ℕ))
     (at-rank : enqueue (contents s slot .messages) ≡ take rank (contents s slot .messages) ++ message ∷ drop rank (contents s slot .messages)) where
   -- where ws are the waiters
@@ -147,7 +152,7 @@ module _ {s : State} (g : SoundFacts s) (slot rank : ℕ) (message : List ℕ) (
           → Submits (contents s slot .waiters)
           (if b then delivered s (firstWaiter s slot) slot message else enqueued s (freeBufferOf s (shareOfSlot slot)) slot rank message)
       go true e z′ =
-          let h : firstWaiter s slot < 32 = ltb-true _ _ e in
+          let h : firstWaiter s slot < taskCount = ltb-true _ _ e in
           let (q, r) = first-waits s (g .sized) slot h in
           let l = leave-lists g (firstWaiter s slot) slot 0 (withMessage message) slot< (h, q, r) (λ w. refl) z′ in
           subst (λ (ws : List ℕ). Submits ws (delivered s (firstWaiter s slot) slot message)) (sym (l .first refl)) (delivered-lists g _ slot message slot< l)

@@ -10,14 +10,14 @@ use lib.ListN.{length, getD, List·getD-eq-default}
 use borrow.Author.Tests.{ltb-false, le-ltb}
 use Rattle.ranks.specs.Position.{Position, positionAt}
 use Rattle.ranks.specs.Steps.{recordAt, byRank}
+use Rattle.records.specs.Layout.{slotCount}
 use Rattle.records.specs.Records.{State}
 use Rattle.specification.specs.Lookup.{firstWaiter, firstMessage}
 use Rattle.theorems.specs.QueueLists.{contents, TestsOnLists}
 use Rattle.ranks.proofs.Tests.{lt-or-ge}
 use Rattle.ranks.proofs.Found.{found-stands, none-first}
 use Rattle.ranks.proofs.ByRank.{RankedTable, at-rank, at-by-rank, by-rank-listed, length-by-rank}
-use Rattle.specification.proofs.SoundFacts.{SoundFacts}
-use Rattle.theorems.proofs.FieldsInRange.{buffers-ranked, tasks-ranked}
+use Rattle.specification.proofs.SoundFacts.{SoundFacts, buffers-ranked, tasks-ranked}
 use Rattle.theorems.proofs.ListContents.{count-messages, count-waiters}
 
 -- a list of no entries
@@ -59,7 +59,7 @@ module _ {A : Type 0} {position : A → Position} {a : A} {N slot n : ℕ} {xs :
           let past = List·getD-eq-default (byRank position slot n xs) N {n = rank} (omega (arith, length-by-rank table)) in
           absurd (omega arith)
 
-pub tests-lists : {s : State} (g : SoundFacts s) (slot : ℕ) → slot < 16 → TestsOnLists s slot
+pub tests-lists : {s : State} (g : SoundFacts s) (slot : ℕ) → slot < slotCount → TestsOnLists s slot
 unfolding firstWaiter firstMessage contents
 tests-lists {s} g slot slot< =
     record {

@@ -10,6 +10,7 @@ use lib.Dec.{eqb}
 use lib.ListN.{length}
 use borrow.Author.Tests.{eqb-true, ne-eqb}
 use Rattle.ranks.specs.Lists.{if_then_else_, mapWithIndex, countTrue, keepIf, numbersFrom}
+use Rattle.records.specs.Layout.{slotCount, taskCount}
 use Rattle.records.specs.Records.{Queue, Task, State, queueAt, taskAt, freshTask}
 use Rattle.records.specs.Changes.{atIndex, withWaiters, moveTask, withTicks, readyWith}
 use Rattle.records.specs.Status.{TIMEOUT}
@@ -19,8 +20,7 @@ use Rattle.theorems.specs.QueueLists.{contents, member, taskAfterTick, S
 use Rattle.ranks.proofs.Lists.{at-mapped, length-range, at-range}
 use Rattle.ranks.proofs.Tests.{same?}
 use Rattle.ranks.proofs.ByRank.{filter-cong, filter-all, filter-filter, alike, by-rank-listed, length-by-rank}
-use Rattle.specification.proofs.SoundFacts.{Sized, SoundFacts}
-use Rattle.theorems.proofs.FieldsInRange.{tasks-ranked}
+use Rattle.specification.proofs.SoundFacts.{Sized, SoundFacts, tasks-ranked}
 use Rattle.theorems.proofs.KeptQueues.{at-here, at-other, at-both}
 use Rattle.theorems.proofs.SoundTick.{expires-waits, tickTask-sound}
 use Rattle.theorems.proofs.ListSteps.{by-number}
@@ -47,17 +47,17 @@ tick-moves w w′ m = subst (λ (v : Task). SameButPosition (taskAfterTick w) (t
 
 record Ticked (s : State) (had : ℕ → Bool) (s′ : State) : Type 0 where
   pool : s′ .pool ≡ s .pool
-  queues : (i : ℕ) → i < 16 → queueAt s′ i ≡ withWaiters (queueAt s′ i .waiters) (queueAt s i)
-  waiters : (i : ℕ) → i < 16 → contents s′ i .waiters ≡ keepIf (λ k. not (had k && expires (taskAt s k))) (contents s i .waiters)
-  tasks : (k : ℕ) → k < 32 → SameButPosition (if had k then taskAfterTick (taskAt s k) else taskAt s k) (taskAt s′ k)
+  queues : (i : ℕ) → i < slotCount → queueAt s′ i ≡ withWaiters (queueAt s′ i .waiters) (queueAt s i)
+  waiters : (i : ℕ) → i < slotCount → contents s′ i .waiters ≡ keepIf (λ k. not (had k && expires (taskAt s k))) (contents s i .waiters)
+  tasks : (k : ℕ) → k < taskCount → SameButPosition (if had k then taskAfterTick (taskAt s k) else taskAt s k) (taskAt s′ k)
 
 -- what a task's record is, by what the test says of it
-task-of : {s s′ : State} {had : ℕ → Bool} → Ticked s had s′ → (k : ℕ) → k < 32 → (p : Bool) → had k ≡ p
+task-of : {s s′ : State} {had : ℕ → Bool} → Ticked s had s′ → (k : ℕ) → k < taskCount → (p : Bool) → had k ≡ p
     → SameButPosition (if p then taskAfterTick (taskAt s k) else taskAt s k) (taskAt s′ k)
 task-of {s} {s′} a k h p e = subst (λ (p : Bool). SameButPosition (if p then taskAfterTick (taskAt s k) else taskAt s k) (taskAt s′ k)) e (a .tasks k h)
 
 -- two tests that say the same of every task keep the same waiters
-filter-same : {s : State} → SoundFacts s → (i : ℕ) → i < 16 → (f h : ℕ → Bool) → ((k : ℕ) → k < 32 → f k ≡ h k)
+filter-same : {s : State} → SoundFacts s → (i : ℕ) → i < slotCount → (f h : ℕ → Bool) → ((k : ℕ) → k < taskCount → f k ≡ h k)
     → keepIf f (contents s i .waiters) ≡ keepIf h (contents s i .waiters)
 unfolding contents
 filter-same {s} g i i< f h same =
@@ -65,7 +65,7 @@ filter-same {s} g i i< f h same =
     filter-cong f h _ 0 (λ k lt. same _ (by-rank-listed table .entry k 0 (omega (arith, length-by-rank table)) .0))
 
 -- one after the other, none of them twice
-in-turn : {s s₁ s₂ : State} {had more : ℕ → Bool} → SoundFacts s → ((k : ℕ) → k < 32 → had k ≡ true → more k ≡ false) → Ticked s had s₁ → Ticked s₁ more s₂
+in-turn : {s s₁ s₂ : State} {had more : ℕ → Bool} → SoundFacts s → ((k : ℕ) → k < taskCount → had k ≡ true → more k ≡ false) → Ticked s had s₁ → Ticked s₁ more s₂
     → Ticked s (λ k. had k || more k) s₂
 in-turn {s} {s₁} {s₂} {had} {more} g once a b =
     record {
@@ -79,13 +79,13 @@ in-turn {s} {s₁} {s₂} {had} {more} g once a b =
       tasks = λ k h. both k h (had k) (more k) refl refl;
     }
   where
-    left : (k : ℕ) → k < 32 → (p q : Bool) → had k ≡ p → more k ≡ q
+    left : (k : ℕ) → k < taskCount → (p q : Bool) → had k ≡ p → more k ≡ q
         → (not (p && expires (taskAt s k)) && not (q && expires (taskAt s₁ k))) ≡ not ((p || q) && expires (taskAt s k))
     left k h true true e f = absurd (false≢true (sym (once k h e) ∙ f))
     left k h true false e f = and-true (not (expires (taskAt s k)))
     left k h false q e f = ap (λ (b : Bool). not (q && b)) (ap expires (task-of a k h false e))
 
-    both : (k : ℕ) → k < 32 → (p q : Bool) → had k ≡ p → more k ≡ q
+    both : (k : ℕ) → k < taskCount → (p q : Bool) → had k ≡ p → more k ≡ q
         → SameButPosition (if p || q then taskAfterTick (taskAt s k) else taskAt s k) (taskAt s₂ k)
     both k h true q e f = moves-on (taskAfterTick (taskAt s k)) _ _ (task-of a k h true e) (task-of b k h false (once k h e))
     both k h false true e f = moves-on (taskAfterTick (taskAt s k)) _ _ (tick-moves (taskAt s k) _ (task-of a k h false e)) (task-of b k h true f)
@@ -93,7 +93,7 @@ in-turn {s} {s₁} {s₂} {had} {more} g once a b =
 
 -- ---- One task
 
-module _ {s : State} (g : SoundFacts s) (t : ℕ) (t< : t < 32) where
+module _ {s : State} (g : SoundFacts s) (t : ℕ) (t< : t < taskCount) where
   -- what the test for one task says of each
   same-test : (b : Bool) → expires (taskAt s t) ≡ b → (k : ℕ) → eqb k t && b ≡ eqb k t && expires (taskAt s k)
   same-test b e k =
@@ -108,9 +108,9 @@ module _ {s : State} (g : SoundFacts s) (t : ℕ) (t< : t < 32) where
       (λ ne. sym (at-other t taskAfterTick k (taskAt s k) ne))
 
   had-tick : (s′ : State) (f : Task → Task) (b : Bool) → expires (taskAt s t) ≡ b → f (taskAt s t) ≡ taskAfterTick (taskAt s t)
-      → s′ .pool ≡ s .pool → ((i : ℕ) → i < 16 → queueAt s′ i ≡ withWaiters (queueAt s′ i .waiters) (queueAt s i))
-      → ((i : ℕ) → i < 16 → contents s′ i .waiters ≡ keepIf (λ k. not (eqb k t && b)) (contents s i .waiters))
-      → ((k : ℕ) → k < 32 → SameButPosition (atIndex t f k (taskAt s k)) (taskAt s′ k)) → Ticked s (λ k. eqb k t) s′
+      → s′ .pool ≡ s .pool → ((i : ℕ) → i < slotCount → queueAt s′ i ≡ withWaiters (queueAt s′ i .waiters) (queueAt s i))
+      → ((i : ℕ) → i < slotCount → contents s′ i .waiters ≡ keepIf (λ k. not (eqb k t && b)) (contents s i .waiters))
+      → ((k : ℕ) → k < taskCount → SameButPosition (atIndex t f k (taskAt s k)) (taskAt s′ k)) → Ticked s (λ k. eqb k t) s′
   had-tick s′ f b e mine pool queues waiters tasks =
       record {
         pool = pool;
@@ -119,7 +119,7 @@ module _ {s : State} (g : SoundFacts s) (t : ℕ) (t< : t < 32) where
         tasks = λ k h. subst (λ (w : Task). SameButPosition w (taskAt s′ k)) (as-ticked f mine k) (tasks k h);
       }
 
-  tick-leaves : (slot : ℕ) → slot < 16 → taskAt s t .position .queue ≡ suc slot → expires (taskAt s t) ≡ true
+  tick-leaves : (slot : ℕ) → slot < slotCount → taskAt s t .position .queue ≡ suc slot → expires (taskAt s t) ≡ true
       → Sized (leave s t slot (taskAt s t .position .rank) (readyWith TIMEOUT))
       → Ticked s (λ k. eqb k t) (leave s t slot (taskAt s t .position .rank) (readyWith TIMEOUT))
   unfolding taskAfterTick
@@ -130,8 +130,8 @@ module _ {s : State} (g : SoundFacts s) (t : ℕ) (t< : t < 32) where
 
   -- no task leaves
   tick-stays : (s′ : State) (f : Task → Task) → expires (taskAt s t) ≡ false → f (taskAt s t) ≡ taskAfterTick (taskAt s t)
-      → s′ .pool ≡ s .pool → ((i : ℕ) → i < 16 → queueAt s′ i ≡ queueAt s i) → ((i : ℕ) → i < 16 → contents s′ i .waiters ≡ contents s i .waiters)
-      → ((k : ℕ) → k < 32 → taskAt s′ k ≡ atIndex t f k (taskAt s k)) → Ticked s (λ k. eqb k t) s′
+      → s′ .pool ≡ s .pool → ((i : ℕ) → i < slotCount → queueAt s′ i ≡ queueAt s i) → ((i : ℕ) → i < slotCount → contents s′ i .waiters ≡ contents s i .waiters)
+      → ((k : ℕ) → k < taskCount → taskAt s′ k ≡ atIndex t f k (taskAt s k)) → Ticked s (λ k. eqb k t) s′
   tick-stays s′ f e mine pool queues waiters tasks =
       had-tick s′ f false e mine pool (λ i i<. rw (queues i i<) refl)
       (λ i i<. waiters i i< ∙ sym (filter-all _ _ 0 (λ k h. ap not (and-false (eqb _ t))))) (λ k h. same-task _ _ (tasks k h))
@@ -154,7 +154,7 @@ module _ {s : State} (g : SoundFacts s) (t : ℕ) (t< : t < 32) where
       (λ j h. alike (ap (λ (w : Task). w .position) (after j h) ∙ at-both (λ _ w. w .position ≡ taskAt s j .position) t fewer j (taskAt s j) (λ _. refl) (λ _. refl))))
       after
     where
-      after : (j : ℕ) → j < 32 → taskAt waits-on j ≡ atIndex t fewer j (taskAt s j)
+      after : (j : ℕ) → j < taskCount → taskAt waits-on j ≡ atIndex t fewer j (taskAt s j)
       after j h = at-mapped (atIndex t fewer) (s .tasks) j (freshTask 1) (freshTask 1) (omega (arith, g .sized .tasks))
 
   tick-one : Sized (tickTask s t) → Ticked s (λ k. eqb k t) (tickTask s t)
@@ -166,7 +166,7 @@ module _ {s : State} (g : SoundFacts s) (t : ℕ) (t< : t < 32) where
           → Ticked s (λ k. eqb k t) (if b then leaving (taskAt s t .position .queue) else if c then waits-on else s)
       go true c e f z′ =
           let w = expires-waits s g t t< e in
-          subst (λ (q : ℕ). Sized (leaving q) → Ticked s (λ k. eqb k t) (leaving q)) (sym (w .queue)) (tick-leaves (w .slot) (w .within16) (w .queue) e) z′
+          subst (λ (q : ℕ). Sized (leaving q) → Ticked s (λ k. eqb k t) (leaving q)) (sym (w .queue)) (tick-leaves (w .slot) (w .slotBelow) (w .queue) e) z′
       go false true e f z′ = tick-waits-on e f z′
       go false false e f z′ =
           tick-stays s (λ w. w) e (rw (e, f)) refl (λ i h. refl) (λ i h. refl) (λ k h. at-both (λ k w. taskAt s k ≡ w) t (λ w. w) k _ (λ _. refl) (λ _. refl))
@@ -179,10 +179,10 @@ unfolding member numbersFrom
 before-range k i zero h = refl
 before-range k i (suc n) h = rw (ne-eqb k i (λ z. omega arith)) (before-range k (suc i) n (omega arith))
 
-in-range : (k : ℕ) → k < 32 → member k (numbersFrom 0 32) ≡ true
-in-range k h = in-some (numbersFrom 0 32) k 0 k (omega (arith, length-range 0 32)) (at-range 0 32 k 0 h ∙ zero-add k)
+in-range : (k : ℕ) → k < taskCount → member k (numbersFrom 0 taskCount) ≡ true
+in-range k h = in-some (numbersFrom 0 taskCount) k 0 k (omega (arith, length-range 0 taskCount)) (at-range 0 taskCount k 0 h ∙ zero-add k)
 
-tick-range : (s : State) → SoundFacts s → (i n : ℕ) → i + n ≤ 32 → Ticked s (λ k. member k (numbersFrom i n)) (tickTasks s (numbersFrom i n))
+tick-range : (s : State) → SoundFacts s → (i n : ℕ) → i + n ≤ taskCount → Ticked s (λ k. member k (numbersFrom i n)) (tickTasks s (numbersFrom i n))
 unfolding tickTasks numbersFrom member
 tick-range s g i zero h =
     record { pool = refl; queues = λ i i<. refl; waiters = λ i i<. sym (filter-all _ _ 0 (λ k h. refl)); tasks = λ k h. refl }
@@ -229,14 +229,14 @@ tick-lists s g =
           both-lists (same-pool s _ i (all .pool) (ap (λ (q : Queue). q .pending) (all .queues i i<)))
           (all .waiters i i< ∙ filter-same g i i< _ _ (λ k h. ap (λ (b : Bool). not (b && expires (taskAt s k))) (in-range k h)));
       status = refl;
-      value = ap countTrue (by-number _ (λ k. expires (taskAt s k)) (s .tasks) (freshTask 1) false 32 (g .sized .tasks) (λ k h. refl)) ∙ count-filter _ (numbersFrom 0 32);
+      value = ap countTrue (by-number _ (λ k. expires (taskAt s k)) (s .tasks) (freshTask 1) false taskCount (g .sized .tasks) (λ k h. refl)) ∙ count-filter _ (numbersFrom 0 taskCount);
       woken =
           mask-of _ (s .tasks) (freshTask 1) (expired s) (g .sized .tasks)
-          (λ k h. sym (in-filter (λ k. expires (taskAt s k)) (numbersFrom 0 32) k ∙ ap (λ (b : Bool). b && expires (taskAt s k)) (in-range k h)));
+          (λ k h. sym (in-filter (λ k. expires (taskAt s k)) (numbersFrom 0 taskCount) k ∙ ap (λ (b : Bool). b && expires (taskAt s k)) (in-range k h)));
       tasks = λ k h. rw (in-range k h) at (all .tasks k h);
       queues = all .queues;
       pool = all .pool;
     }
   where
-    all : Ticked s (λ k. member k (numbersFrom 0 32)) (tickTasks s (numbersFrom 0 32))
-    all = tick-range s g 0 32 (omega arith)
+    all : Ticked s (λ k. member k (numbersFrom 0 taskCount)) (tickTasks s (numbersFrom 0 taskCount))
+    all = tick-range s g 0 taskCount (omega arith)

@@ -18,7 +18,7 @@ use Rattle.specification.proofs.OnRecords.{callOnRecords}
 use Rattle.specification.proofs.Refused.{refused-with, refused-or, refuses-none}
 use Rattle.specification.proofs.SoundFacts.{SoundFacts, is-sound}
 use Rattle.theorems.proofs.Demand1.{call-statuses, Refuses}
-use Rattle.theorems.proofs.SoundCall.{Accepted, accepted}
+use Rattle.specification.proofs.Accepted.{Accepted, accepted-facts, creatable, name-found}
 use Rattle.theorems.proofs.SoundSteps.{facts, fits, step-is, answer-is, decoded-after}
 use Rattle.theorems.proofs.ListQueues.{OperationFacts, operation-lists, create-lists, ident-lists}
 use Rattle.theorems.proofs.ListTests.{tests-lists}
@@ -31,7 +31,7 @@ not-refused : (s : State) (c : Call) → NotRefused (callOnRecords s c .answer) 
 unfolding callOnRecords
 not-refused s c =
     refused-with (λ o. NotRefused (o .answer) → Accepted s c × (o ≡ effect s c)) s {Q = Refuses} (commonRefusals s c ++ ownRefusals s c) (effect s c)
-    (call-statuses s c) (λ n q r. absurd (⊎-elim (λ e. let h = q .0 in omega arith) (λ e. q .2 e) r)) (λ n _. (accepted s c n, refl))
+    (call-statuses s c) (λ n q r. absurd (⊎-elim (λ e. let h = q .0 in omega arith) (λ e. q .2 e) r)) (λ n _. (accepted-facts s c n, refl))
 
 module _ (t : Tables) (st : SoundTables t) (c : Call) where
   accepts : NotRefused (step t c .answer) → Accepted (decode t) c × (callOnRecords (decode t) c ≡ effect (decode t) c)
@@ -61,7 +61,7 @@ unfolding effect Accepted directiveRefusals
 created t caller name limit maxSize attributes st args r =
     let (a, e) = accepts t st (call caller (create name limit maxSize attributes)) r in
     on-records t st (call caller (create name limit maxSize attributes)) (CreateOnTables (decode t) (shareOfTask caller) name limit maxSize attributes) args e
-    (create-lists (facts t st) (shareOfTask caller) name limit maxSize attributes (a .1))
+    (create-lists (facts t st) (shareOfTask caller) name limit maxSize attributes (creatable _ _ name limit maxSize attributes (a .directive)))
 
 found : (t : Tables) (caller name share : ℕ) → SoundTables t → NotRefused (step t (call caller (ident name share)) .answer)
     → IdentOnTables (decode t) caller name share (step t (call caller (ident name share)) .answer)
@@ -70,7 +70,7 @@ found t caller name share st r =
     let (a, e) = accepts t st (call caller (ident name share)) r in
     subst (IdentOnTables (decode t) caller name share)
     (sym (answer-is t st (call caller (ident name share)) ∙ ap (λ (o : Outcome State). o .answer) e))
-    (ident-lists (facts t st) caller name share (a .1))
+    (ident-lists (facts t st) caller name share (name-found _ caller name share (a .directive)))
 
 identified : (t : Tables) (caller name share : ℕ) → SoundTables t → step t (call caller (ident name share)) .after ≡ t
 unfolding callOnRecords effect Ident.effect

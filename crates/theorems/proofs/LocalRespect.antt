@@ -3,12 +3,12 @@ use Prim.Native.Nat.{ℕ, suc, _<_}
 use mathlib.Core.Path.{_≡_, refl, sym, ap, _∙_}
 use mathlib.Core.Bool.{Bool, true, false, _&&_, true≢false}
 use mathlib.Core.Logic.{⊎-elim}
-use mathlib.Core.List.{List, _++_}
+use mathlib.Core.List.{List}
 use lib.Dec.{eqb, ltb}
-use borrow.Author.Tests.{eqb-true, eq-eqb, ne-eqb, ltb-true, lt-ltb, leb-false, not-false}
+use borrow.Author.Tests.{eqb-true, eq-eqb, ne-eqb, ltb-true, lt-ltb}
 use Rattle.ranks.specs.Lists.{if_then_else_, mapWithIndex, bit, mask}
 use Rattle.ranks.specs.Position.{Position, inQueue}
-use Rattle.records.specs.Layout.{slotOf}
+use Rattle.records.specs.Layout.{slotOf, taskCount, slotCount, bufferCount}
 use Rattle.records.specs.Split.{shareOfSlot, shareOfBuffer, shareOfTask}
 use Rattle.records.specs.Records.{Queue, Buffer, Task, State, freeQueue, freeBuffer, freshTask}
 use Rattle.records.specs.Changes.{atIndex, moveTask, moveBuffer, withMessage}
@@ -16,15 +16,15 @@ use Rattle.specification.specs.Call.{Operation, Call, delete, send, urgent, bro
 use Rattle.specification.specs.Lookup.{usable, firstWaiter, hasWaiter, firstMessage, hasMessage, waitersOf, leave, withoutWaiters, withoutMessages}
 use Rattle.specification.specs.Submit.{freeBufferOf, delivered, enqueued}
 use Rattle.specification.specs.Receive.{received, waitRank, waiting}
-use Rattle.specification.specs.Step.{commonRefusals, operationRefusals, directiveRefusals, ownRefusals, operationEffect, effect}
+use Rattle.specification.specs.Step.{operationRefusals, directiveRefusals, operationEffect, effect}
 use Rattle.theorems.specs.Noninterference.{isCallOf, isTick}
 use Rattle.ranks.proofs.Ranks.{out-stays, in-stays}
 use Rattle.ranks.proofs.Tests.{and, or}
+use Rattle.specification.proofs.Accepted.{Accepted, accepted-facts, creatable, on-queue}
 use Rattle.specification.proofs.SoundFacts.{Sized}
 use Rattle.specification.proofs.OnRecords.{callOnRecords}
 use Rattle.specification.proofs.Refused.{None, refused-or}
 use Rattle.theorems.proofs.KeptQueues.{at-other}
-use Rattle.theorems.proofs.SoundCall.{ready-caller}
 use Rattle.theorems.proofs.SoundCreate.{slot-found}
 use Rattle.theorems.proofs.SoundReceive.{first-holds}
 use Rattle.theorems.proofs.SoundSubmit.{slot-below, first-waits, free-found, submitted}
@@ -44,8 +44,8 @@ other-record : (share : ℕ → ℕ) {x : ℕ} (i : ℕ) → (share i ≡ x → 
 other-record share i n j o q = n (sym (ap share q) ∙ o)
 
 -- a task that makes a call that is not x's is of another share
-not-own : (x caller : ℕ) → caller < 32 → ltb caller 32 && eqb (shareOfTask caller) x ≡ false → shareOfTask caller ≡ x → ⊥
-not-own x caller h e o = true≢false (sym (and {a = ltb caller 32} (lt-ltb _ _ h) (eq-eqb _ _ o)) ∙ e)
+not-own : (x caller : ℕ) → caller < taskCount → ltb caller taskCount && eqb (shareOfTask caller) x ≡ false → shareOfTask caller ≡ x → ⊥
+not-own x caller h e o = true≢false (sym (and {a = ltb caller taskCount} (lt-ltb _ _ h) (eq-eqb _ _ o)) ∙ e)
 
 module _ {x : ℕ} {s : State} (p : Confined x s) where
   z : Sized s
@@ -55,20 +55,20 @@ module _ {x : ℕ} {s : State} (p : Confined x s) where
 
   module _ (slot : ℕ) (other : shareOfSlot slot ≡ x → ⊥) where
     -- a change of this queue
-    queues-still : (f : Queue → Queue) → SameAt shareOfSlot x 16 (freeQueue 0) (s .queues) (mapWithIndex (atIndex slot f) (s .queues))
-    queues-still f = still-mapped shareOfSlot x 16 (freeQueue 0) _ (s .queues) (z .queues) (λ i h o. at-other slot f i _ (other-record shareOfSlot slot other i o))
+    queues-still : (f : Queue → Queue) → SameAt shareOfSlot x slotCount (freeQueue 0) (s .queues) (mapWithIndex (atIndex slot f) (s .queues))
+    queues-still f = still-mapped shareOfSlot x slotCount (freeQueue 0) _ (s .queues) (z .queues) (λ i h o. at-other slot f i _ (other-record shareOfSlot slot other i o))
 
     -- a change of the buffers, or of the tasks, that are in it or of another share
     pool-still : (F : ℕ → Buffer → Buffer) → ((b : ℕ) (m : Buffer) → shareOfBuffer b ≡ x → (m .position .queue ≡ suc slot → ⊥) → F b m ≡ m)
-        → SameAt shareOfBuffer x 64 freeBuffer (s .pool) (mapWithIndex F (s .pool))
-    pool-still F off = still-in shareOfBuffer (λ m. m .position) x 64 freeBuffer slot other F (s .pool) (z .pool) (pool-in-own p) off
+        → SameAt shareOfBuffer x bufferCount freeBuffer (s .pool) (mapWithIndex F (s .pool))
+    pool-still F off = still-in shareOfBuffer (λ m. m .position) x bufferCount freeBuffer slot other F (s .pool) (z .pool) (pool-in-own p) off
 
     tasks-still : (F : ℕ → Task → Task) → ((t : ℕ) (w : Task) → shareOfTask t ≡ x → (w .position .queue ≡ suc slot → ⊥) → F t w ≡ w)
-        → SameAt shareOfTask x 32 (freshTask 1) (s .tasks) (mapWithIndex F (s .tasks))
-    tasks-still F off = still-in shareOfTask (λ w. w .position) x 32 (freshTask 1) slot other F (s .tasks) (z .tasks) (tasks-in-own p) off
+        → SameAt shareOfTask x taskCount (freshTask 1) (s .tasks) (mapWithIndex F (s .tasks))
+    tasks-still F off = still-in shareOfTask (λ w. w .position) x taskCount (freshTask 1) slot other F (s .tasks) (z .tasks) (tasks-in-own p) off
 
     -- none of the share's tasks waits in it
-    waiters-none : (t : ℕ) → t < 32 → shareOfTask t ≡ x → bit t (mask (waitersOf slot (s .tasks))) ≡ 0
+    waiters-none : (t : ℕ) → t < taskCount → shareOfTask t ≡ x → bit t (mask (waitersOf slot (s .tasks))) ≡ 0
     unfolding waitersOf
     waiters-none = mask-of-none x (λ t w. inQueue slot (w .position)) s z (λ t h o. ne-eqb _ _ (λ q. other (p .confined .home t h o slot q)))
 
@@ -128,7 +128,7 @@ module _ {x : ℕ} {s : State} (p : Confined x s) where
         go : (b : Bool) → hasWaiter s slot ≡ b
             → Respected x s (if b then delivered s (firstWaiter s slot) slot message else enqueued s (freeBufferOf s (shareOfSlot slot)) slot rank message)
         go true k =
-            let lt : firstWaiter s slot < 32 = ltb-true _ _ k in
+            let lt : firstWaiter s slot < taskCount = ltb-true _ _ k in
             delivered-respects (firstWaiter s slot) message (λ o. other (p .confined .home _ lt o slot (first-waits s z slot lt .0)))
         go false k =
             enqueued-respects (freeBufferOf s (shareOfSlot slot)) rank message
@@ -184,7 +184,7 @@ module _ {x : ℕ} {s : State} (p : Confined x s) where
           go : (b : Bool) → hasMessage s slot ≡ b
               → Respected x s (if b then received s caller slot (firstMessage s slot) else waiting s caller slot (waitRank s caller slot) ticks)
           go true k =
-              let lt : firstMessage s slot < 64 = ltb-true _ _ k in
+              let lt : firstMessage s slot < bufferCount = ltb-true _ _ k in
               received-respects (firstMessage s slot) (λ o. other (pool-in-own p .of-record _ slot lt (first-holds s z slot lt .0) o))
           go false k = waiting-respects _ ticks
 
@@ -204,24 +204,24 @@ module _ {x : ℕ} {s : State} (p : Confined x s) where
   usable-other : (caller id : ℕ) → (shareOfTask caller ≡ x → ⊥) → usable s caller id ≡ true → shareOfSlot (slotOf id) ≡ x → ⊥
   usable-other caller id n u o = ⊎-elim (λ a. n (sym (eqb-true _ _ a) ∙ o)) (λ a. not-open p (slotOf id) (slot-below id) o a) (or _ _ (usable-may s caller id u))
 
-  effect-respects : (c : Call) → isCallOf x c ≡ false → isTick c ≡ false → None (commonRefusals s c ++ ownRefusals s c)
-      → Respected x s (effect s c)
-  unfolding effect isCallOf isTick commonRefusals ownRefusals directiveRefusals Create.refusals Create.effect Ident.effect
-  effect-respects (call caller (create name limit maxSize attributes)) o k (_, (r, (_, (_, (_, (_, (f, _))))))) =
-      let lt : Create.freeSlot s (shareOfTask caller) < 16 = leb-false _ _ f in
+  effect-respects : (c : Call) → isCallOf x c ≡ false → isTick c ≡ false → Accepted s c → Respected x s (effect s c)
+  unfolding effect isCallOf isTick Accepted directiveRefusals Create.effect Ident.effect
+  effect-respects (call caller (create name limit maxSize attributes)) o k a =
+      let lt = creatable s (shareOfTask caller) name limit maxSize attributes (a .directive) .slotBelow in
       wakes-nobody _ refl
       (record {
-        queues = queues-still _ (λ own. not-own x caller (ready-caller s caller r .below) o (sym (slot-found s z (shareOfTask caller) lt .1) ∙ own)) _;
+        queues = queues-still _ (λ own. not-own x caller (a .caller .below) o (sym (slot-found s z (shareOfTask caller) lt .1) ∙ own)) _;
         pool = λ i h o. refl;
         tasks = λ i h o. refl;
       })
   effect-respects (call caller (ident name share)) o k a = wakes-nobody _ refl (equivalent-refl x s)
-  effect-respects (call caller (onQueue id operation)) o k (_, (r, (u, n))) =
-      let ne = not-own x caller (ready-caller s caller r .below) o in
-      operation-respects (slotOf id) (usable-other caller id ne (not-false _ u)) caller ne operation n
+  effect-respects (call caller (onQueue id operation)) o k a =
+      let ne = not-own x caller (a .caller .below) o in
+      let q = on-queue s caller id operation (a .directive) in
+      operation-respects (slotOf id) (usable-other caller id ne (q .isUsable)) caller ne operation (q .operation)
   effect-respects tick o k a = absurd (true≢false k)
 
   pub other-respects : (c : Call) → isCallOf x c ≡ false → isTick c ≡ false → Respected x s (callOnRecords s c)
   unfolding callOnRecords
   other-respects c o k =
-      refused-or (λ r. Respected x s r) s _ _ (λ n. wakes-nobody _ refl (equivalent-refl x s)) (λ n. effect-respects c o k n)
+      refused-or (λ r. Respected x s r) s _ _ (λ n. wakes-nobody _ refl (equivalent-refl x s)) (λ n. effect-respects c o k (accepted-facts s c n))

@@ -1,5 +1,5 @@
 -- Demand 3, whole: on bytes, for any share and any two runs. Assumes nothing.
-use Prim.Native.Nat.{ℕ, _*_, _≤_, _<_}
+use Prim.Native.Nat.{ℕ, _≤_, _<_}
 use native.Mathlib.Omega.{arith}
 use mathlib.Core.Path.{_≡_, refl, sym, ap, _∙_, subst}
 use mathlib.Core.Bool.{true}
@@ -7,14 +7,15 @@ use mathlib.Core.List.{List, map}
 use lib.Dec.{eqb}
 use lib.ListN.{length, getD}
 use Rattle.ranks.specs.Lists.{allTrue, mapWithIndex, within}
-use Rattle.ranks.specs.Table.{slice}
-use Rattle.records.specs.Records.{State, fresh, freshTask}
-use Rattle.records.specs.Bytes.{Tables, encodeQueue, encodeBuffer, encodeTask, encode}
+use Rattle.records.specs.Layout.{taskCount, capacity}
+use Rattle.records.specs.Records.{State, fresh}
+use Rattle.records.specs.Bytes.{encodeQueue, encodeBuffer, encodeTask, encode}
 use Rattle.specification.specs.Call.{Call}
-use Rattle.specification.specs.Run.{Event, run, freshTables, goodPriorities}
-use Rattle.theorems.specs.Noninterference.{purge, isConfined, observations, wakesNoTaskOf, SameRecords, Noninterference, Demand3}
+use Rattle.specification.specs.Run.{Event, freshTables, goodPriorities}
+use Rattle.theorems.specs.Noninterference.{isConfined, observations, wakesNoTaskOf, SameRecords, Demand3}
 use Rattle.ranks.proofs.Lists.{every-at}
 use Rattle.ranks.proofs.Tests.{both}
+use Rattle.records.proofs.Fits.{free-queue-fits}
 use Rattle.records.proofs.ByteLists.{bytes-zeros}
 use Rattle.specification.proofs.OnRecords.{eventsOnRecords, stateAfter}
 use Rattle.specification.proofs.Rules.{bounds}
@@ -30,10 +31,10 @@ pub fresh-fits : (ps : List ℕ) → goodPriorities ps ≡ true → Encodable (f
 unfolding goodPriorities
 fresh-fits ps e =
     let p = priorities ps e in
-    let high : (t : ℕ) → t < 32 → getD ps t 0 ≤ 255 = λ t h. bounds 1 255 (getD ps t 0) (every-at (λ t p. within 1 255 p) ps 0 (both (eqb (length ps) 32) (allTrue (mapWithIndex (λ t p. within 1 255 p) ps)) e .1) t (omega (arith, p .count))) .1 in
+    let high : (t : ℕ) → t < taskCount → getD ps t 0 ≤ 255 = λ t h. bounds 1 255 (getD ps t 0) (every-at (λ t p. within 1 255 p) ps 0 (both (eqb (length ps) taskCount) (allTrue (mapWithIndex (λ t p. within 1 255 p) ps)) e .1) t (omega (arith, p .count))) .1 in
     record {
-      queues = λ i h. rw (fresh-queue ps p i h) (record { generation = omega arith; name = omega arith; reserved = refl });
-      pool = λ b h. rw (fresh-buffer ps p b h) (record { reserved = refl; bytes = record { long = refl; each = bytes-zeros 120 } });
+      queues = λ i h. rw (fresh-queue ps p i h) (free-queue-fits 0 (omega arith));
+      pool = λ b h. rw (fresh-buffer ps p b h) (record { reserved = refl; bytes = record { long = refl; each = bytes-zeros capacity } });
       tasks =
           λ t h.
           rw (fresh-task ps p t h)
@@ -42,7 +43,7 @@ fresh-fits ps e =
             reserved = refl;
             ticksLeft = omega arith;
             reservedAfter = refl;
-            receiveBuffer = record { long = refl; each = bytes-zeros 120 };
+            receiveBuffer = record { long = refl; each = bytes-zeros capacity };
           });
     }
 

@@ -1,32 +1,27 @@
 -- A call and a run on the byte tables are the call and the run on their records. Assumes nothing.
-use Prim.Native.Nat.{ℕ, _+_, _*_, _≤_, _<_, _^_}
+use Prim.Native.Nat.{ℕ, _+_, _*_, _<_}
 use native.Mathlib.Omega.{arith}
-use mathlib.Core.Path.{_≡_, refl, sym, ap, ap₂, _∙_, subst}
-use mathlib.Core.Bool.{Bool, true, false, not, false≢true}
-use mathlib.Core.Logic.{_⊎_, inl, inr, ⊎-elim}
+use mathlib.Core.Path.{_≡_, refl, sym, ap, _∙_}
+use mathlib.Core.Bool.{Bool, true, false, false≢true}
 use mathlib.Core.List.{List, [], _∷_, _++_, map, flatten}
-use lib.ListN.{length, getD}
+use lib.ListN.{length}
 use borrow.Author.Tests.{eq-eqb}
 use Rattle.ranks.specs.Lists.{if_then_else_, allTrue}
 use Rattle.ranks.specs.Table.{slice, records}
-use Rattle.records.specs.Records.{Queue, Buffer, Task, State, queueAt, bufferAt, taskAt, freeQueue, freeBuffer, freshTask}
+use Rattle.records.specs.Layout.{queueWidth, bufferCount, bufferWidth, taskCount, taskWidth, slotCount}
+use Rattle.records.specs.Records.{State, queueAt, bufferAt, taskAt, freeQueue, freeBuffer, freshTask}
 use Rattle.records.specs.Bytes.{Tables, decodeQueue, encodeQueue, decodeBuffer, encodeBuffer, decodeTask, encodeTask, decode, encode, rightLengths}
-use Rattle.records.specs.InRange.{AllBytes, ByteTables, ByteList, QueueInRange, BufferInRange, TaskInRange, FieldsInRange}
-use Rattle.specification.specs.Answer.{Answer, Outcome, Refusal, refuseIfAny, refuse}
+use Rattle.specification.specs.Answer.{Outcome, Refusal, refuseIfAny, refuse}
 use Rattle.specification.specs.Call.{Call, argumentsInRange}
 use Rattle.specification.specs.Sound.{sound}
 use Rattle.specification.specs.Step.{commonRefusals, ownRefusals, refusals, effect, encoded, step}
 use Rattle.specification.specs.Run.{Event, run}
-use Rattle.theorems.specs.SoundTables.{SoundTables}
 use Rattle.ranks.proofs.Tests.{and}
 use Rattle.ranks.proofs.Table.{length-records}
-use Rattle.records.proofs.Access.{queue-at, buffer-at, task-at}
 use Rattle.records.proofs.DecodeEncode.{QueueEncodable, BufferEncodable, TaskEncodable, length-queue, length-buffer, length-task, decode-encode-queue, decode-encode-buffer, decode-encode-task, Each, each-of, decode-encode-records, record-at}
-use Rattle.records.proofs.ByteLists.{bytes-queues, bytes-pool, bytes-tasks}
-use Rattle.records.proofs.EncodeDecode.{lengths, length-slice, bytes-slice, encode-decode}
 use Rattle.specification.proofs.OnRecords.{callOnRecords, eventsOnRecords, stateAfter}
-use Rattle.specification.proofs.SoundFacts.{Sized, SoundFacts, sound-facts, is-sound}
-use Rattle.theorems.proofs.Encodable.{BufferFits, TaskFits, Encodable, call-fits}
+use Rattle.specification.proofs.SoundFacts.{Sized, SoundFacts}
+use Rattle.theorems.proofs.Encodable.{Encodable, call-fits}
 use Rattle.theorems.proofs.SoundCall.{call-sound}
 use Rattle.records.proofs.DecodeEncode
 
@@ -53,16 +48,16 @@ module _ (s : State) (z : Sized s) (f : Encodable s) where
   encode-lengths =
       and
       (and
-      (eq-eqb _ _ (DecodeEncode.length-records encodeQueue decodeQueue 16 QueueEncodable length-queue decode-encode-queue (s .queues) queues ∙ ap (λ (n : ℕ). n * 16) (z .queues)))
-      (eq-eqb _ _ (DecodeEncode.length-records encodeBuffer decodeBuffer 128 BufferEncodable length-buffer decode-encode-buffer (s .pool) pool ∙ ap (λ (n : ℕ). n * 128) (z .pool))))
-      (eq-eqb _ _ (DecodeEncode.length-records encodeTask decodeTask 136 TaskEncodable length-task decode-encode-task (s .tasks) tasks ∙ ap (λ (n : ℕ). n * 136) (z .tasks)))
+      (eq-eqb _ _ (DecodeEncode.length-records encodeQueue decodeQueue queueWidth QueueEncodable length-queue decode-encode-queue (s .queues) queues ∙ ap (λ (n : ℕ). n * queueWidth) (z .queues)))
+      (eq-eqb _ _ (DecodeEncode.length-records encodeBuffer decodeBuffer bufferWidth BufferEncodable length-buffer decode-encode-buffer (s .pool) pool ∙ ap (λ (n : ℕ). n * bufferWidth) (z .pool))))
+      (eq-eqb _ _ (DecodeEncode.length-records encodeTask decodeTask taskWidth TaskEncodable length-task decode-encode-task (s .tasks) tasks ∙ ap (λ (n : ℕ). n * taskWidth) (z .tasks)))
 
   pub decode-encode : decode (encode s) ≡ s
   unfolding decode encode
   decode-encode = λ i. record {
-    queues = back encodeQueue decodeQueue 16 QueueEncodable length-queue decode-encode-queue 16 (s .queues) (z .queues) queues i;
-    pool = back encodeBuffer decodeBuffer 128 BufferEncodable length-buffer decode-encode-buffer 64 (s .pool) (z .pool) pool i;
-    tasks = back encodeTask decodeTask 136 TaskEncodable length-task decode-encode-task 32 (s .tasks) (z .tasks) tasks i;
+    queues = back encodeQueue decodeQueue queueWidth QueueEncodable length-queue decode-encode-queue slotCount (s .queues) (z .queues) queues i;
+    pool = back encodeBuffer decodeBuffer bufferWidth BufferEncodable length-buffer decode-encode-buffer bufferCount (s .pool) (z .pool) pool i;
+    tasks = back encodeTask decodeTask taskWidth TaskEncodable length-task decode-encode-task taskCount (s .tasks) (z .tasks) tasks i;
   }
     where
       back : {A : Type 0} (write : A → List ℕ) (read : List ℕ → A) (n : ℕ) (Fit : A → Type 0) (size : (a : A) → Fit a → length (write a) ≡ n)
@@ -72,17 +67,17 @@ module _ (s : State) (z : Sized s) (f : Encodable s) where
           ap (λ (m : ℕ). map read (records m n (flatten (map write l)))) (sym len) ∙ decode-encode-records write read n Fit size is l e
 
   -- the bytes of one record
-  pub queue-bytes : (i : ℕ) → i < 16 → slice (i * 16) 16 (encode s .queues) ≡ encodeQueue (queueAt s i)
+  pub queue-bytes : (i : ℕ) → i < slotCount → slice (i * queueWidth) queueWidth (encode s .queues) ≡ encodeQueue (queueAt s i)
   unfolding encode
-  queue-bytes i h = record-at encodeQueue decodeQueue 16 QueueEncodable length-queue decode-encode-queue (s .queues) queues i (freeQueue 0) (omega (arith, z .queues))
+  queue-bytes i h = record-at encodeQueue decodeQueue queueWidth QueueEncodable length-queue decode-encode-queue (s .queues) queues i (freeQueue 0) (omega (arith, z .queues))
 
-  pub buffer-bytes : (b : ℕ) → b < 64 → slice (b * 128) 128 (encode s .pool) ≡ encodeBuffer (bufferAt s b)
+  pub buffer-bytes : (b : ℕ) → b < bufferCount → slice (b * bufferWidth) bufferWidth (encode s .pool) ≡ encodeBuffer (bufferAt s b)
   unfolding encode
-  buffer-bytes b h = record-at encodeBuffer decodeBuffer 128 BufferEncodable length-buffer decode-encode-buffer (s .pool) pool b freeBuffer (omega (arith, z .pool))
+  buffer-bytes b h = record-at encodeBuffer decodeBuffer bufferWidth BufferEncodable length-buffer decode-encode-buffer (s .pool) pool b freeBuffer (omega (arith, z .pool))
 
-  pub task-bytes : (t : ℕ) → t < 32 → slice (t * 136) 136 (encode s .tasks) ≡ encodeTask (taskAt s t)
+  pub task-bytes : (t : ℕ) → t < taskCount → slice (t * taskWidth) taskWidth (encode s .tasks) ≡ encodeTask (taskAt s t)
   unfolding encode
-  task-bytes t h = record-at encodeTask decodeTask 136 TaskEncodable length-task decode-encode-task (s .tasks) tasks t (freshTask 1) (omega (arith, z .tasks))
+  task-bytes t h = record-at encodeTask decodeTask taskWidth TaskEncodable length-task decode-encode-task (s .tasks) tasks t (freshTask 1) (omega (arith, z .tasks))
 
 -- ---- A call
 

@@ -1,36 +1,34 @@
 -- Create and delete leave sound tables. Assumes nothing.
-use Prim.Native.Nat.{ℕ, zero, suc, pred, _+_, _-_, _%_, _≤_, _<_}
+use Prim.Native.Nat.{ℕ, suc, _+_, _≤_, _<_}
 use native.Mathlib.Nat.{add-zero}
 use native.Mathlib.Omega.{arith}
-use mathlib.Core.Path.{_≡_, refl, sym, ap, ap₂, _∙_, subst}
-use mathlib.Core.Bool.{Bool, true, false, not, _&&_, false≢true}
-use mathlib.Core.Logic.{_⊎_, inl, inr, ⊎-elim}
-use mathlib.Core.List.{List, [], _∷_}
-use lib.Dec.{eqb, leb, ltb}
-use lib.ListN.{length, getD, replicate}
-use borrow.Author.Tests.{eqb-true, eqb-false, eq-eqb, ne-eqb, not-false, ltb-true, ltb-false, leb-false}
-use Rattle.ranks.specs.Lists.{if_then_else_, mapWithIndex, allTrue, allZero, sumOf, firstTrue, within}
-use Rattle.records.specs.Layout.{slotOf}
-use Rattle.records.specs.Split.{shareCount, shareOfSlot, shareOfTask, shareLimit}
-use Rattle.ranks.specs.Position.{Position, noQueue}
-use Rattle.records.specs.Records.{Queue, Buffer, Task, State, queueAt, bufferAt, taskAt, freeQueue, freeBuffer, freshTask, hasPriority, isLive}
-use Rattle.specification.specs.Sound.{limits, soundQueue, soundBuffer, soundTask, taskRules}
-use Rattle.specification.specs.Answer.{Outcome}
+use mathlib.Core.Path.{_≡_, refl, sym, ap, _∙_, subst}
+use mathlib.Core.Bool.{Bool, true, false, _&&_, false≢true}
+use mathlib.Core.Logic.{_⊎_, inl, ⊎-elim}
+use mathlib.Core.List.{[], _∷_}
+use lib.Dec.{eqb, ltb}
+use lib.ListN.{length, getD}
+use borrow.Author.Tests.{eqb-true, eq-eqb, ne-eqb, ltb-true}
+use Rattle.ranks.specs.Lists.{if_then_else_, mapWithIndex, allTrue, allZero}
+use Rattle.records.specs.Layout.{largestLimit, capacity, slotCount, taskCount}
+use Rattle.records.specs.Split.{shareCount, shareOfSlot, shareLimit}
+use Rattle.records.specs.Records.{Queue, State, queueAt, taskAt, freeQueue, hasPriority, isLive}
+use Rattle.specification.specs.Sound.{limits, soundQueue, taskRules}
 use Rattle.records.specs.Status.{OBJECT-WAS-DELETED}
 use Rattle.records.specs.Changes.{atIndex, freed, readyWith}
 use Rattle.specification.specs.Lookup.{withoutWaiters, withoutMessages}
-use Rattle.specification.specs.Create.{freeSlot, newQueue, refusals, effect}
-use Rattle.ranks.proofs.Lists.{at-mapped, length-mapped, sum-at, first-true, first-bound, holds}
-use Rattle.ranks.proofs.Tests.{same?, both}
-use Rattle.specification.proofs.Rules.{Live, Free, Unused, Used, Ready, Waiting, live-sound, free-sound, queue-rules, buffer-rules, unused-sound, used-sound, task-rules, ready-sound, waiting-sound, bounds}
-use Rattle.ranks.proofs.Ranks.{Ranked}
-use Rattle.specification.proofs.SoundFacts.{Sized, SoundFacts, Ordered}
-use Rattle.theorems.proofs.KeptQueues.{live-of, Same, same, used-same, waiting-same}
-use Rattle.specification.proofs.Refused.{None}
+use Rattle.specification.specs.Create.{freeSlot, newQueue, effect}
+use Rattle.ranks.proofs.Lists.{at-mapped, length-mapped, sum-at, first-true, holds}
+use Rattle.ranks.proofs.Tests.{same?}
+use Rattle.specification.proofs.Rules.{Free, Ready, live-sound, free-sound, queue-rules, buffer-rules, unused-sound, used-sound, task-rules, ready-sound, waiting-sound}
+use Rattle.specification.proofs.Accepted.{Creatable}
+use Rattle.specification.proofs.SoundFacts.{Sized, SoundFacts}
+use Rattle.theorems.proofs.KeptQueues.{Same, same, used-same, waiting-same}
 use Rattle.theorems.proofs.SoundCleared.{cleared-waiters, cleared-order, cleared-task, emptied-messages, emptied-buffer}
 use Rattle.theorems.proofs.SoundSubmit.{readyWith-ready}
 use Rattle.specification.specs.Delete
 use Rattle.theorems.proofs.CountChange
+use Rattle.theorems.proofs.CountChange.{QueueChanged}
 
 -- ---- The sum of a share's limits
 
@@ -39,7 +37,7 @@ abbrev pub adds : ℕ → ℕ → Queue → ℕ
 adds p i q = if eqb (shareOfSlot i) p && isLive q then q .limit else 0
 
 -- one queue changed, and it adds n more
-limits-at : (s s′ : State) → Sized s → Sized s′ → (slot p n : ℕ) → slot < 16 → ((i : ℕ) → i < 16 → (i ≡ slot → ⊥) → queueAt s i ≡ queueAt s′ i)
+limits-at : (s s′ : State) → Sized s → Sized s′ → (slot p n : ℕ) → slot < slotCount → ((i : ℕ) → i < slotCount → (i ≡ slot → ⊥) → queueAt s i ≡ queueAt s′ i)
     → adds p slot (queueAt s′ slot) ≡ adds p slot (queueAt s slot) + n → limits s′ p ≡ limits s p + n
 unfolding limits
 limits-at s s′ z z′ slot p n h other e =
@@ -48,16 +46,16 @@ limits-at s s′ z z′ slot p n h other e =
     (λ i lt ne. let lt′ = below i lt in at-s i lt′ ∙ ap (adds p i) (other i lt′ ne) ∙ sym (at-s′ i lt′))
     (at-s′ slot h ∙ e ∙ ap (λ (k : ℕ). k + n) (sym (at-s slot h)))
   where
-    len : (i : ℕ) → i < 16 → i < length (mapWithIndex (adds p) (s .queues))
+    len : (i : ℕ) → i < slotCount → i < length (mapWithIndex (adds p) (s .queues))
     len i lt = let a = length-mapped (adds p) (s .queues) in let b = z .queues in omega arith
 
-    below : (i : ℕ) → i < length (mapWithIndex (adds p) (s .queues)) → i < 16
+    below : (i : ℕ) → i < length (mapWithIndex (adds p) (s .queues)) → i < slotCount
     below i lt = let a = length-mapped (adds p) (s .queues) in let b = z .queues in omega arith
 
-    at-s : (i : ℕ) → i < 16 → getD (mapWithIndex (adds p) (s .queues)) i 0 ≡ adds p i (queueAt s i)
+    at-s : (i : ℕ) → i < slotCount → getD (mapWithIndex (adds p) (s .queues)) i 0 ≡ adds p i (queueAt s i)
     at-s i lt = at-mapped (adds p) (s .queues) i (freeQueue 0) 0 (omega (arith, z .queues))
 
-    at-s′ : (i : ℕ) → i < 16 → getD (mapWithIndex (adds p) (s′ .queues)) i 0 ≡ adds p i (queueAt s′ i)
+    at-s′ : (i : ℕ) → i < slotCount → getD (mapWithIndex (adds p) (s′ .queues)) i 0 ≡ adds p i (queueAt s′ i)
     at-s′ i lt = at-mapped (adds p) (s′ .queues) i (freeQueue 0) 0 (omega (arith, z′ .queues))
 
 -- a free queue adds nothing, a live one of the share its limit
@@ -74,21 +72,21 @@ adds-live p i q e = ((λ o. rw (eq-eqb _ _ o, eq-eqb _ _ e)), (λ n. rw (ne-eqb 
 
 -- ---- Delete
 
-pub delete-sound : (s : State) → SoundFacts s → (slot : ℕ) → slot < 16 → SoundFacts (Delete.effect s slot .after)
+pub delete-sound : (s : State) → SoundFacts s → (slot : ℕ) → slot < slotCount → SoundFacts (Delete.effect s slot .after)
 unfolding Delete.effect withoutWaiters withoutMessages taskRules allZero
 delete-sound s g slot slot< =
     record {
       sized = sized′;
-      queue = CountChange.of-each s s′ g sized′ slot slot< freed refl (λ i q. soundQueue q ≡ true) (free-sound _ is-free) (g .queue);
+      queue = CountChange.of-each change (λ i q. soundQueue q ≡ true) (free-sound _ is-free) (g .queue);
       limit =
           λ p h.
           let e = limits-at s′ s sized′ (g .sized) slot p (adds p slot (queueAt s slot)) slot< (λ i lt ne. other i lt ne)
           (sym (ap (λ (k : ℕ). k + adds p slot (queueAt s slot)) (adds-free p slot (queueAt s′ slot) (ap (λ (q : Queue). q .live) here)) ∙ omega arith)) in
           let l = g .limit p h in
           omega arith;
-      buffer = emptied-buffer s s′ g slot slot< refl (ap (λ (q : Queue). q .pending) here) other;
-      messages = emptied-messages s s′ g slot slot< refl (ap (λ (q : Queue). q .pending) here) other;
-      waiters = cleared-waiters s s′ g slot slot< (readyWith OBJECT-WAS-DELETED) (λ w. refl) rdy refl (ap (λ (q : Queue). q .waiters) here) other;
+      buffer = emptied-buffer change refl;
+      messages = emptied-messages change refl refl;
+      waiters = cleared-waiters change (readyWith OBJECT-WAS-DELETED) (λ w. refl) rdy refl refl;
       order =
           λ i h p.
           ⊎-elim
@@ -96,10 +94,10 @@ delete-sound s g slot slot< =
           let e : hasPriority (queueAt s′ i) ≡ false = ap (λ (k : ℕ). hasPriority (queueAt s′ k)) z ∙ ap hasPriority here in
           absurd (false≢true (sym e ∙ p)))
           (λ ne.
-          cleared-order s s′ g slot slot< (readyWith OBJECT-WAS-DELETED) (λ w. refl) rdy refl (ap (λ (q : Queue). q .waiters) here) other i
+          cleared-order change (readyWith OBJECT-WAS-DELETED) (λ w. refl) rdy refl i
           (g .order i h (sym (ap hasPriority (other i h ne)) ∙ p)))
           (same? i slot);
-      task = cleared-task s s′ g slot slot< (readyWith OBJECT-WAS-DELETED) (λ w. refl) rdy refl (ap (λ (q : Queue). q .waiters) here) other;
+      task = cleared-task change (readyWith OBJECT-WAS-DELETED) (λ w. refl) rdy refl;
     }
   where
     s′ : State
@@ -113,23 +111,26 @@ delete-sound s g slot slot< =
           tasks = length-mapped _ (s .tasks) ∙ g .sized .tasks;
         }
 
-    other : (i : ℕ) → i < 16 → (i ≡ slot → ⊥) → queueAt s′ i ≡ queueAt s i
-    other = CountChange.other s s′ g sized′ slot slot< freed refl
+    change : QueueChanged s s′ slot freed
+    change = record { facts = g; sized = sized′; inside = slot<; queues = refl }
+
+    other : (i : ℕ) → i < slotCount → (i ≡ slot → ⊥) → queueAt s′ i ≡ queueAt s i
+    other = CountChange.other change
 
     here : queueAt s′ slot ≡ freed (queueAt s slot)
-    here = CountChange.here s s′ g sized′ slot slot< freed refl
+    here = CountChange.here change
 
     is-free : Free (freed (queueAt s slot))
     is-free =
         record { live = refl; attributes = refl; limit = refl; maxSize = refl; pending = refl; waiters = refl; name = refl; reserved = refl }
 
-    rdy : (t : ℕ) → t < 32 → taskAt s t .position .queue ≡ suc slot → Ready (readyWith OBJECT-WAS-DELETED (taskAt s t))
+    rdy : (t : ℕ) → t < taskCount → taskAt s t .position .queue ≡ suc slot → Ready (readyWith OBJECT-WAS-DELETED (taskAt s t))
     rdy t h q = readyWith-ready s g t h OBJECT-WAS-DELETED refl
 
 -- ---- Create
 
 -- the slot found is free and of the share
-pub slot-found : (s : State) → Sized s → (p : ℕ) → freeSlot s p < 16
+pub slot-found : (s : State) → Sized s → (p : ℕ) → freeSlot s p < slotCount
     → (queueAt s (freeSlot s p) .live ≡ 0) × (shareOfSlot (freeSlot s p) ≡ p) × (queueAt s (freeSlot s p) .generation < 65535)
 unfolding freeSlot
 slot-found s z p h =
@@ -141,8 +142,8 @@ slot-found s z p h =
     F : ℕ → Queue → Bool
     F i q = allTrue (eqb (q .live) 0 ∷ eqb (shareOfSlot i) p ∷ ltb (q .generation) 65535 ∷ [])
 
-module _ (s : State) (g : SoundFacts s) (slot name limit maxSize attributes : ℕ) (slot< : slot < 16) (free : queueAt s slot .live ≡ 0)
-    (name≥ : 1 ≤ name) (attributes≤ : attributes ≤ 3) (limit≥ : 1 ≤ limit) (limit≤ : limit ≤ 16) (size≥ : 1 ≤ maxSize) (size≤ : maxSize ≤ 120)
+module _ (s : State) (g : SoundFacts s) (slot name limit maxSize attributes : ℕ) (slot< : slot < slotCount) (free : queueAt s slot .live ≡ 0)
+    (name≥ : 1 ≤ name) (attributes≤ : attributes ≤ 3) (limit≥ : 1 ≤ limit) (limit≤ : limit ≤ largestLimit) (size≥ : 1 ≤ maxSize) (size≤ : maxSize ≤ capacity)
     (argumentsInRange : limits s (shareOfSlot slot) + limit ≤ shareLimit (shareOfSlot slot)) where
   abbrev new : Queue → Queue
   new = newQueue name limit maxSize attributes
@@ -153,11 +154,14 @@ module _ (s : State) (g : SoundFacts s) (slot name limit maxSize attributes : �
   sized′ : Sized s′
   sized′ = record { queues = length-mapped _ (s .queues) ∙ g .sized .queues; pool = g .sized .pool; tasks = g .sized .tasks }
 
-  other : (i : ℕ) → i < 16 → (i ≡ slot → ⊥) → queueAt s′ i ≡ queueAt s i
-  other = CountChange.other s s′ g sized′ slot slot< new refl
+  change : QueueChanged s s′ slot new
+  change = record { facts = g; sized = sized′; inside = slot<; queues = refl }
+
+  other : (i : ℕ) → i < slotCount → (i ≡ slot → ⊥) → queueAt s′ i ≡ queueAt s i
+  other = CountChange.other change
 
   here : queueAt s′ slot ≡ new (queueAt s slot)
-  here = CountChange.here s s′ g sized′ slot slot< new refl
+  here = CountChange.here change
 
   was-free : Free (queueAt s slot)
   was-free = ⊎-elim (λ l. absurd (let e = l .live in omega arith)) (λ f. f) (queue-rules _ (g .queue slot slot<))
@@ -185,7 +189,7 @@ module _ (s : State) (g : SoundFacts s) (slot name limit maxSize attributes : �
           omega arith
 
   -- a live queue is another one
-  same-live : (i : ℕ) → i < 16 → queueAt s i .live ≡ 1 → Same (queueAt s i) (queueAt s′ i)
+  same-live : (i : ℕ) → i < slotCount → queueAt s i .live ≡ 1 → Same (queueAt s i) (queueAt s′ i)
   same-live i h l =
       subst (λ (q : Queue). Same (queueAt s i) q)
       (sym (other i h (λ z. let e : queueAt s slot .live ≡ 1 = subst (λ (k : ℕ). queueAt s k .live ≡ 1) z l in omega arith))) (same _)
@@ -196,7 +200,7 @@ module _ (s : State) (g : SoundFacts s) (slot name limit maxSize attributes : �
       record {
         sized = sized′;
         queue =
-            CountChange.of-each s s′ g sized′ slot slot< new refl (λ i q. soundQueue q ≡ true)
+            CountChange.of-each change (λ i q. soundQueue q ≡ true)
             (live-sound _
             (record {
               live = refl;
@@ -215,14 +219,10 @@ module _ (s : State) (g : SoundFacts s) (slot name limit maxSize attributes : �
         limit = limit′;
         buffer =
             λ b h.
-            ⊎-elim (λ u. unused-sound s′ b _ u) (λ u. used-sound s′ b _ (used-same s s′ b _ u (same-live (u .slot) (u .within16) (u .live))))
+            ⊎-elim (λ u. unused-sound s′ b _ u) (λ u. used-sound s′ b _ (used-same s s′ b _ u (same-live (u .slot) (u .slotBelow) (u .live))))
             (buffer-rules s b _ (g .buffer b h));
-        messages =
-            CountChange.of-each s s′ g sized′ slot slot< new refl (λ i q. Ranked 64 (λ b. bufferAt s b .position) i (q .pending))
-            (subst (λ (n : ℕ). Ranked 64 (λ b. bufferAt s b .position) slot n) (was-free .pending) (g .messages slot slot<)) (g .messages);
-        waiters =
-            CountChange.of-each s s′ g sized′ slot slot< new refl (λ i q. Ranked 32 (λ t. taskAt s t .position) i (q .waiters))
-            (subst (λ (n : ℕ). Ranked 32 (λ t. taskAt s t .position) slot n) (was-free .waiters) (g .waiters slot slot<)) (g .waiters);
+        messages = CountChange.messages-stay change (sym (was-free .pending));
+        waiters = CountChange.waiters-stay change (sym (was-free .waiters));
         order =
             λ i h p.
             ⊎-elim
@@ -234,18 +234,14 @@ module _ (s : State) (g : SoundFacts s) (slot name limit maxSize attributes : �
             (λ ne. g .order i h (sym (ap hasPriority (other i h ne)) ∙ p)) (same? i slot);
         task =
             λ t h.
-            ⊎-elim (λ r. ready-sound s′ t _ r) (λ w. waiting-sound s′ t _ (waiting-same s s′ t _ w (same-live (w .slot) (w .within16) (w .live))))
+            ⊎-elim (λ r. ready-sound s′ t _ r) (λ w. waiting-sound s′ t _ (waiting-same s s′ t _ w (same-live (w .slot) (w .slotBelow) (w .live))))
             (task-rules s t _ (g .task t h));
       }
 
-pub create-sound : (s : State) → SoundFacts s → (share name limit maxSize attributes : ℕ) → None (refusals s share name limit maxSize attributes)
+pub create-sound : (s : State) → SoundFacts s → (share name limit maxSize attributes : ℕ) → Creatable s share name limit maxSize attributes
     → SoundFacts (effect s (freeSlot s share) name limit maxSize attributes .after)
-unfolding refusals effect
-create-sound s g share name limit maxSize attributes (n, (a, (l, (m, (f, (u, _)))))) =
-    let n′ : name ≡ 0 → ⊥ = eqb-false _ _ n in
-    let (l₁, l₂) = bounds _ _ _ (not-false _ l) in
-    let (m₁, m₂) = bounds _ _ _ (not-false _ m) in
-    let lt : freeSlot s share < 16 = leb-false _ _ f in
-    let (live, own, gen) = slot-found s (g .sized) share lt in
-    created-sound s g (freeSlot s share) name limit maxSize attributes lt live (omega arith) (ltb-false _ _ a) l₁ l₂ m₁ m₂
-    (subst (λ (p : ℕ). limits s p + limit ≤ shareLimit p) (sym own) (ltb-false _ _ u))
+unfolding effect
+create-sound s g share name limit maxSize attributes c =
+    let (live, own, gen) = slot-found s (g .sized) share (c .slotBelow) in
+    created-sound s g (freeSlot s share) name limit maxSize attributes (c .slotBelow) live (let n = c .named in omega arith) (c .attributesHigh) (c .limitLow) (c .limitHigh)
+    (c .sizeLow) (c .sizeHigh) (subst (λ (p : ℕ). limits s p + limit ≤ shareLimit p) (sym own) (c .room))

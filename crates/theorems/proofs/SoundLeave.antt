@@ -5,26 +5,28 @@ use mathlib.Core.Path.{_≡_, refl, sym, ap, _∙_, subst}
 use mathlib.Core.Bool.{true}
 use mathlib.Core.Logic.{inl, inr, ⊎-elim}
 use lib.Dec.{eqb}
-use lib.ListN.{length}
-use Rattle.ranks.specs.Lists.{if_then_else_, mapWithIndex}
+use Rattle.ranks.specs.Lists.{if_then_else_}
 use Rattle.ranks.specs.Position.{Position, noQueue}
-use Rattle.records.specs.Records.{Queue, Task, State, queueAt, bufferAt, taskAt, freeQueue, freshTask, hasPriority}
+use Rattle.records.specs.Layout.{slotCount, taskCount}
+use Rattle.records.specs.Records.{Queue, Task, State, queueAt, bufferAt, taskAt, hasPriority}
 use Rattle.ranks.specs.Steps.{takenOut}
 use Rattle.specification.specs.Sound.{soundTask}
-use Rattle.records.specs.Changes.{atIndex, withWaiters, moveTask}
+use Rattle.records.specs.Changes.{withWaiters, moveTask}
 use Rattle.specification.specs.Lookup.{leave}
-use Rattle.ranks.proofs.Lists.{at-mapped, length-mapped}
+use Rattle.ranks.proofs.Lists.{length-mapped}
 use Rattle.ranks.proofs.Tests.{same?}
 use Rattle.specification.proofs.Rules.{Live, Ready, live-sound, ready-sound}
-use Rattle.ranks.proofs.Ranks.{Ranked, Agree, out-itself, out-moved, take-out-other, take-out-all, stayed, left-mono}
-use Rattle.specification.proofs.SoundFacts.{Sized, SoundFacts, Ordered}
-use Rattle.theorems.proofs.KeptQueues.{if-at, live-waiters, live-of, Same, Kept, buffer-kept, moved-task}
+use Rattle.ranks.proofs.Ranks.{Agree, out-itself, out-moved, take-out-other, take-out-all, stayed, left-mono}
+use Rattle.specification.proofs.SoundFacts.{Sized, SoundFacts, Ordered, tasks-ranked}
+use Rattle.theorems.proofs.ListSteps.{stepped-at, stepped-changed}
+use Rattle.theorems.proofs.KeptQueues.{if-at, live-waiters, live-of, Kept, buffer-kept, moved-task, same-but-counts}
 use Rattle.theorems.proofs.CountChange
+use Rattle.theorems.proofs.CountChange.{QueueChanged}
 
 abbrev pub fewer : Queue → Queue
 fewer q = withWaiters (q .waiters - 1) q
 
-module _ (s : State) (g : SoundFacts s) (t slot : ℕ) (f : Task → Task) (here : t < 32) (slot< : slot < 16) (q : taskAt s t .position .queue ≡ suc slot)
+module _ (s : State) (g : SoundFacts s) (t slot : ℕ) (f : Task → Task) (here : t < taskCount) (slot< : slot < slotCount) (q : taskAt s t .position .queue ≡ suc slot)
     (rdy : Ready (f (taskAt s t))) (nw : (w : Task) → f w .position ≡ noQueue) where
   abbrev rank : ℕ
   rank = taskAt s t .position .rank
@@ -46,23 +48,20 @@ module _ (s : State) (g : SoundFacts s) (t slot : ℕ) (f : Task → Task) (here
         tasks = length-mapped _ (s .tasks) ∙ g .sized .tasks;
       }
 
-  queues′ : s′ .queues ≡ mapWithIndex (atIndex slot fewer) (s .queues)
+  change : QueueChanged s s′ slot fewer
   unfolding leave
-  queues′ = refl
+  change = record { facts = g; sized = sized′; inside = slot<; queues = refl }
 
-  task-after : (j : ℕ) → j < 32 → taskAt s′ j ≡ (if eqb j t then f (taskAt s j) else moveTask (takenOut t slot rank j (P j)) (taskAt s j))
+  task-after : (j : ℕ) → j < taskCount → taskAt s′ j ≡ (if eqb j t then f (taskAt s j) else moveTask (takenOut t slot rank j (P j)) (taskAt s j))
   unfolding leave
-  task-after j h =
-      at-mapped (λ j w. if eqb j t then f w else moveTask (takenOut t slot rank j (w .position)) w) (s .tasks) j (freshTask 1) (freshTask 1)
-      (omega (arith, g .sized .tasks))
+  task-after = stepped-at (tasks-ranked s g slot slot<) moveTask t f (takenOut t slot rank)
 
-  position-after : (j : ℕ) → j < 32 → taskAt s′ j .position ≡ takenOut t slot rank j (P j)
-  position-after j h =
-      ap (λ (w : Task). w .position) (task-after j h)
-      ∙ if-at (λ w. w .position ≡ takenOut t slot rank j (P j)) j t (f (taskAt s j)) _
-      (λ e. nw _ ∙ sym (subst (λ (k : ℕ). takenOut t slot rank k (P j) ≡ noQueue) (sym e) (out-itself t slot rank (P j)))) (λ _. refl)
+  position-after : (j : ℕ) → j < taskCount → taskAt s′ j .position ≡ takenOut t slot rank j (P j)
+  unfolding leave
+  position-after =
+      stepped-changed (tasks-ranked s g slot slot<) moveTask t f (takenOut t slot rank) (λ p w. refl) (λ w. nw w ∙ sym (out-itself t slot rank (w .position)))
 
-  priority-after : (j : ℕ) → j < 32 → (j ≡ t → ⊥) → taskAt s′ j .priority ≡ taskAt s j .priority
+  priority-after : (j : ℕ) → j < taskCount → (j ≡ t → ⊥) → taskAt s′ j .priority ≡ taskAt s j .priority
   priority-after j h ne =
       ap (λ (w : Task). w .priority) (task-after j h)
       ∙ if-at (λ w. w .priority ≡ taskAt s j .priority) j t (f (taskAt s j)) _ (λ e. absurd (ne e)) (λ _. refl)
@@ -78,20 +77,17 @@ module _ (s : State) (g : SoundFacts s) (t slot : ℕ) (f : Task → Task) (here
   none : queueAt s slot .pending ≡ 0
   none = ⊎-elim (λ e. e) (λ e. absurd (let h = has in omega arith)) (live .either)
 
-  like : Same (queueAt s slot) (fewer (queueAt s slot))
-  like = record { live = refl; attributes = refl; limit = refl; maxSize = refl }
-
   kept : Kept s s′
-  kept = CountChange.kept s s′ g sized′ slot slot< fewer queues′ like
+  kept = CountChange.kept change (same-but-counts _ _ _)
 
   -- ---- The order of the waiters
 
-  agree : (i j : ℕ) → (i ≡ slot → ⊥) → j < 32 → Agree i (P j) (taskAt s′ j .position)
+  agree : (i j : ℕ) → (i ≡ slot → ⊥) → j < taskCount → Agree i (P j) (taskAt s′ j .position)
   agree i j ne h =
       subst (λ (x : Position). Agree i (P j) x) (sym (position-after j h))
       (take-out-other t slot rank i j (P j) ne (λ e. ap (λ (k : ℕ). P k .queue) e ∙ q))
 
-  order′ : (i : ℕ) → i < 16 → hasPriority (queueAt s i) ≡ true → Ordered s′ i
+  order′ : (i : ℕ) → i < slotCount → hasPriority (queueAt s i) ≡ true → Ordered s′ i
   order′ i h p a b ha hb qa qb lt = ⊎-elim this other (same? i slot)
     where
       T : Type 0
@@ -105,7 +101,7 @@ module _ (s : State) (g : SoundFacts s) (t slot : ℕ) (f : Task → Task) (here
 
       this : i ≡ slot → T
       this e =
-          let was = stayed 32 P slot (queueAt s slot .waiters) t here q (g .waiters slot slot<) in
+          let was = stayed taskCount P slot (queueAt s slot .waiters) t here q (g .waiters slot slot<) in
           let (na, wa, la) = was a ha (sym (ap (λ (x : Position). x .queue) (position-after a ha)) ∙ qa ∙ ap suc e) in
           let (nb, wb, lb) = was b hb (sym (ap (λ (x : Position). x .queue) (position-after b hb)) ∙ qb ∙ ap suc e) in
           let o = g .order i h p a b ha hb (wa ∙ sym (ap suc e)) (wb ∙ sym (ap suc e)) (left-mono la lb (omega (arith, ra, rb))) in
@@ -125,13 +121,13 @@ module _ (s : State) (g : SoundFacts s) (t slot : ℕ) (f : Task → Task) (here
   pub leave-sound : SoundFacts (leave s t slot (taskAt s t .position .rank) f)
   unfolding leave
   leave-sound =
-      CountChange.counted s s′ g sized′ slot slot< fewer queues′ like
+      CountChange.counted change (same-but-counts _ _ _)
       (live-sound _ (live-waiters _ _ (inl none) live))
       (λ b h. buffer-kept s s′ b (bufferAt s b) kept (g .buffer b h))
-      (CountChange.of-each s s′ g sized′ slot slot< fewer queues′ (λ i q. Ranked 64 (λ b. bufferAt s b .position) i (q .pending)) (g .messages slot slot<) (g .messages))
-      (take-out-all 32 16 P (λ j. taskAt s′ j .position) (λ i. queueAt s i .waiters) (λ i. queueAt s′ i .waiters) slot (g .waiters)
-      (λ i h ne. ap (λ (q : Queue). q .waiters) (CountChange.other s s′ g sized′ slot slot< fewer queues′ i h ne))
-      t here slot< q (ap (λ (q : Queue). q .waiters) (CountChange.here s s′ g sized′ slot slot< fewer queues′)) position-after)
+      (CountChange.messages-stay change refl)
+      (take-out-all taskCount slotCount P (λ j. taskAt s′ j .position) (λ i. queueAt s i .waiters) (λ i. queueAt s′ i .waiters) slot (g .waiters)
+      (λ i h ne. ap (λ (q : Queue). q .waiters) (CountChange.other change i h ne))
+      t here slot< q (ap (λ (q : Queue). q .waiters) (CountChange.here change)) position-after)
       order′
       (λ j h.
       subst (λ (w : Task). soundTask s′ j w ≡ true) (sym (task-after j h))

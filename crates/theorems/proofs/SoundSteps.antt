@@ -1,20 +1,18 @@
 -- Sound byte tables stay sound byte tables, and a step on them is the call on their records. Assumes nothing.
-use Prim.Native.Nat.{ℕ}
-use mathlib.Core.Path.{_≡_, refl, sym, ap, _∙_, subst}
+use mathlib.Core.Path.{_≡_, sym, ap, _∙_, subst}
 use mathlib.Core.Bool.{true}
 use Rattle.records.specs.Records.{State}
 use Rattle.records.specs.Bytes.{Tables, decode, encode}
-use Rattle.records.specs.InRange.{ByteTables, FieldsInRange}
-use Rattle.specification.specs.Answer.{Answer, Outcome}
+use Rattle.specification.specs.Answer.{Outcome}
 use Rattle.specification.specs.Call.{Call, argumentsInRange}
 use Rattle.specification.specs.Sound.{sound}
 use Rattle.specification.specs.Step.{encoded, step}
 use Rattle.theorems.specs.SoundTables.{SoundTables}
 use Rattle.records.proofs.EncodeDecode.{encode-decode}
 use Rattle.specification.proofs.OnRecords.{callOnRecords}
-use Rattle.specification.proofs.SoundFacts.{Sized, SoundFacts, sound-facts, is-sound}
+use Rattle.specification.proofs.SoundFacts.{SoundFacts, sound-facts, is-sound}
 use Rattle.theorems.proofs.Encodable.{Encodable, call-fits}
-use Rattle.theorems.proofs.FieldsInRange.{decoded-sized, decoded, in-range-sized, in-range-fits, encoded-bytes, sound-in-range}
+use Rattle.theorems.proofs.FieldsInRange.{decoded-sized, decoded, in-range-fits, encoded-bytes, sound-in-range}
 use Rattle.theorems.proofs.OnBytes.{decode-encode, step-on-records}
 use Rattle.theorems.proofs.SoundCall.{call-sound}
 

@@ -1,25 +1,24 @@
 -- Send and urgent leave sound tables. Assumes nothing.
-use Prim.Native.Nat.{ℕ, zero, suc, _≤_, _<_}
+use Prim.Native.Nat.{ℕ, suc, _≤_, _<_}
 use native.Mathlib.Omega.{arith}
 use mathlib.Core.Path.{_≡_, refl, sym, ap, _∙_, subst}
 use mathlib.Core.Bool.{Bool, true, false, not, _&&_, _||_}
 use mathlib.Core.Logic.{inr, ⊎-elim}
-use mathlib.Core.List.{List, []}
-use lib.Dec.{eqb, leb, ltb}
+use mathlib.Core.List.{List}
+use lib.Dec.{eqb, leb}
 use lib.ListN.{length}
 use borrow.Author.Tests.{eqb-true, ltb-true, ltb-false, leb-false, not-false}
 use Rattle.ranks.specs.Lists.{if_then_else_, mapWithIndex, allTrue}
 use Rattle.records.specs.Split.{shareOfSlot, shareOfBuffer}
-use Rattle.records.specs.Layout.{slotOf}
-use Rattle.records.specs.Records.{Queue, Buffer, Task, State, sizeAllowed, queueAt, bufferAt, taskAt, freeBuffer, freshTask}
+use Rattle.records.specs.Layout.{slotOf, capacity, slotCount, taskCount, bufferCount}
+use Rattle.records.specs.Records.{State, sizeAllowed, queueAt, bufferAt, taskAt, freeBuffer, freshTask}
 use Rattle.records.specs.Changes.{overwriteFront, withWait, withResult, readyWith, withMessage}
 use Rattle.records.specs.Status.{SUCCESSFUL, TIMEOUT, OBJECT-WAS-DELETED}
 use Rattle.ranks.specs.Position.{noQueue}
 use Rattle.specification.specs.Sound.{taskRules}
-use Rattle.specification.specs.Answer.{Outcome}
 use Rattle.specification.specs.Lookup.{usable, firstWaiter, hasWaiter, leave}
 use Rattle.specification.specs.Submit.{isFull, isFreeOf, freeBufferOf, refusals, delivered, enqueued, effect}
-use Rattle.ranks.proofs.Lists.{at-mapped, length-mapped, first-true, first-bound, holds}
+use Rattle.ranks.proofs.Lists.{at-mapped, length-mapped, first-true, holds}
 use Rattle.ranks.proofs.Tests.{both}
 use Rattle.ranks.proofs.Found.{found-stands, none-first}
 use Rattle.specification.proofs.Rules.{size-at-most, Live, Ready, task-rules}
@@ -34,26 +33,26 @@ pub usable-live : (s : State) (caller id : ℕ) → usable s caller id ≡ true 
 unfolding usable
 usable-live s caller id e = eqb-true _ _ (holds _ e .0)
 
-pub slot-below : (id : ℕ) → slotOf id < 16
+pub slot-below : (id : ℕ) → slotOf id < slotCount
 slot-below id = omega arith
 
 -- every task's rules on its own bytes
-pub own-rules : (s : State) → SoundFacts s → (t : ℕ) → t < 32 → allTrue (taskRules (taskAt s t)) ≡ true
+pub own-rules : (s : State) → SoundFacts s → (t : ℕ) → t < taskCount → allTrue (taskRules (taskAt s t)) ≡ true
 own-rules s g t h = ⊎-elim (λ r. r .rules) (λ w. w .rules) (task-rules s t _ (g .task t h))
 
 -- the first waiter stands at rank 0
-pub first-waits : (s : State) → Sized s → (slot : ℕ) → firstWaiter s slot < 32
+pub first-waits : (s : State) → Sized s → (slot : ℕ) → firstWaiter s slot < taskCount
     → (taskAt s (firstWaiter s slot) .position .queue ≡ suc slot) × (taskAt s (firstWaiter s slot) .position .rank ≡ 0)
 unfolding firstWaiter
 first-waits s z slot h = found-stands (λ w. w .position) slot 0 (s .tasks) (freshTask 1) (omega (arith, z .tasks))
 
 -- with no first waiter there is no waiter
-pub none-waits : (s : State) → SoundFacts s → (slot : ℕ) → slot < 16 → 32 ≤ firstWaiter s slot → queueAt s slot .waiters ≡ 0
+pub none-waits : (s : State) → SoundFacts s → (slot : ℕ) → slot < slotCount → taskCount ≤ firstWaiter s slot → queueAt s slot .waiters ≡ 0
 unfolding firstWaiter
-none-waits s g slot slot< h = none-first (λ w. w .position) slot _ (s .tasks) (freshTask 1) 32 (g .sized .tasks) (g .waiters slot slot<) h
+none-waits s g slot slot< h = none-first (λ w. w .position) slot _ (s .tasks) (freshTask 1) taskCount (g .sized .tasks) (g .waiters slot slot<) h
 
 -- the buffer found is free and of the share
-pub free-found : (s : State) → Sized s → (p : ℕ) → freeBufferOf s p < 64
+pub free-found : (s : State) → Sized s → (p : ℕ) → freeBufferOf s p < bufferCount
     → (bufferAt s (freeBufferOf s p) .position .queue ≡ 0) × (shareOfBuffer (freeBufferOf s p) ≡ p)
 unfolding freeBufferOf
 free-found s z p h =
@@ -63,21 +62,21 @@ free-found s z p h =
     (eqb-true _ _ a, eqb-true _ _ b)
 
 -- a ready task's length
-pub length-bound : (s : State) → SoundFacts s → (t : ℕ) → t < 32 → taskAt s t .messageLength ≤ 120
+pub length-bound : (s : State) → SoundFacts s → (t : ℕ) → t < taskCount → taskAt s t .messageLength ≤ capacity
 length-bound s g t h = ⊎-elim (λ r. r .messageLength) (λ w. let e = w .messageLength in omega arith) (task-rules s t _ (g .task t h))
 
 -- a task that has left its queue, with what it received, is a ready task
-left-ready : (s : State) → SoundFacts s → (t : ℕ) → t < 32 → (status size : ℕ) (bytes : List ℕ)
-    → (eqb status SUCCESSFUL || eqb status TIMEOUT || eqb status OBJECT-WAS-DELETED) ≡ true → size ≤ 120
+left-ready : (s : State) → SoundFacts s → (t : ℕ) → t < taskCount → (status size : ℕ) (bytes : List ℕ)
+    → (eqb status SUCCESSFUL || eqb status TIMEOUT || eqb status OBJECT-WAS-DELETED) ≡ true → size ≤ capacity
     → Ready (withWait 0 noQueue 0 (withResult status size bytes (taskAt s t)))
 unfolding taskRules
 left-ready s g t h status size bytes ok le =
     record { rules = own-rules s g t h; state = refl; queue = refl; rank = refl; ticksLeft = refl; status = ok; messageLength = le }
 
-pub withMessage-ready : (s : State) → SoundFacts s → (t : ℕ) → t < 32 → (message : List ℕ) → length message ≤ 120 → Ready (withMessage message (taskAt s t))
+pub withMessage-ready : (s : State) → SoundFacts s → (t : ℕ) → t < taskCount → (message : List ℕ) → length message ≤ capacity → Ready (withMessage message (taskAt s t))
 withMessage-ready s g t h message le = left-ready s g t h SUCCESSFUL (length message) (overwriteFront message (taskAt s t .receiveBuffer)) refl le
 
-pub readyWith-ready : (s : State) → SoundFacts s → (t : ℕ) → t < 32 → (status : ℕ)
+pub readyWith-ready : (s : State) → SoundFacts s → (t : ℕ) → t < taskCount → (status : ℕ)
     → (eqb status SUCCESSFUL || eqb status TIMEOUT || eqb status OBJECT-WAS-DELETED) ≡ true → Ready (readyWith status (taskAt s t))
 readyWith-ready s g t h status ok = left-ready s g t h status (taskAt s t .messageLength) (taskAt s t .receiveBuffer) ok (length-bound s g t h)
 
@@ -85,7 +84,7 @@ readyWith-ready s g t h status ok = left-ready s g t h status (taskAt s t .messa
 pub record Submitted (s : State) (slot : ℕ) (message : List ℕ) : Type 0 where
   pub allowed : sizeAllowed (queueAt s slot) (length message) ≡ true
   pub room : hasWaiter s slot ≡ false → queueAt s slot .pending < queueAt s slot .limit
-  pub free : hasWaiter s slot ≡ false → freeBufferOf s (shareOfSlot slot) < 64
+  pub free : hasWaiter s slot ≡ false → freeBufferOf s (shareOfSlot slot) < bufferCount
 
 pub submitted : (s : State) (slot : ℕ) (message : List ℕ) → None (refusals s slot message) → Submitted s slot message
 unfolding refusals
@@ -93,18 +92,18 @@ submitted s slot message (size, (full, (none, _))) =
     record {
       allowed = not-false _ size;
       room = λ e. leb-false _ _ (sym (ap (λ (b : Bool). not b && isFull (queueAt s slot)) e) ∙ full);
-      free = λ e. leb-false _ _ (sym (ap (λ (b : Bool). not b && leb 64 (freeBufferOf s (shareOfSlot slot))) e) ∙ none);
+      free = λ e. leb-false _ _ (sym (ap (λ (b : Bool). not b && leb bufferCount (freeBufferOf s (shareOfSlot slot))) e) ∙ none);
     }
 
-module _ (s : State) (g : SoundFacts s) (slot rank : ℕ) (message : List ℕ) (slot< : slot < 16) (live : queueAt s slot .live ≡ 1)
+module _ (s : State) (g : SoundFacts s) (slot rank : ℕ) (message : List ℕ) (slot< : slot < slotCount) (live : queueAt s slot .live ≡ 1)
     (ok : Submitted s slot message) (le : rank ≤ queueAt s slot .pending) where
   is-live : Live (queueAt s slot)
   is-live = live-of _ (g .queue slot slot<) (inr (inr live))
 
-  pub short : length message ≤ 120
+  pub short : length message ≤ capacity
   short = let h = size-at-most _ _ (ok .allowed) in let k = is-live .size-high in omega arith
 
-  delivered-sound : firstWaiter s slot < 32 → SoundFacts (delivered s (firstWaiter s slot) slot message .after)
+  delivered-sound : firstWaiter s slot < taskCount → SoundFacts (delivered s (firstWaiter s slot) slot message .after)
   unfolding delivered
   delivered-sound h =
       let (q, r) = first-waits s (g .sized) slot h in

@@ -1,27 +1,24 @@
 -- A tick leaves sound tables. Assumes nothing.
-use Prim.Native.Nat.{ℕ, zero, suc, pred, _+_, _-_, _%_, _≤_, _<_}
+use Prim.Native.Nat.{ℕ, zero, suc, pred, _+_, _-_, _≤_, _<_}
 use native.Mathlib.Omega.{arith}
-use native.Mathlib.Nat.{zero-sub}
-use mathlib.Core.Path.{_≡_, refl, sym, ap, ap₂, _∙_, subst}
-use mathlib.Core.Bool.{Bool, true, false, not, _&&_, _||_, true≢false}
-use mathlib.Core.Logic.{_⊎_, inl, inr, ⊎-elim}
+use mathlib.Core.Path.{_≡_, refl, sym, ap, _∙_, subst}
+use mathlib.Core.Bool.{Bool, true, false}
+use mathlib.Core.Logic.{_⊎_, ⊎-elim}
 use mathlib.Core.List.{List, [], _∷_}
-use lib.Dec.{eqb, leb, ltb}
-use lib.ListN.{length, getD}
-use borrow.Author.Tests.{eqb-true, eqb-false, eq-eqb, ne-eqb}
-use Rattle.ranks.specs.Lists.{if_then_else_, mapWithIndex, numbersFrom, allTrue}
-use Rattle.ranks.specs.Position.{Position, noQueue}
-use Rattle.records.specs.Records.{Queue, Buffer, Task, State, queueAt, bufferAt, taskAt, freeBuffer, freshTask, isWaiting}
+use borrow.Author.Tests.{eqb-true}
+use Rattle.ranks.specs.Lists.{if_then_else_, mapWithIndex, numbersFrom}
+use Rattle.ranks.specs.Position.{Position}
+use Rattle.records.specs.Layout.{taskCount}
+use Rattle.records.specs.Records.{Task, State, queueAt, bufferAt, taskAt, freshTask, isWaiting, waitingState}
 use Rattle.specification.specs.Sound.{taskRules, soundTask, slotIn}
-use Rattle.specification.specs.Answer.{Outcome}
 use Rattle.records.specs.Status.{TIMEOUT}
 use Rattle.records.specs.Changes.{atIndex, readyWith, withTicks}
 use Rattle.specification.specs.Lookup.{leave}
 use Rattle.specification.specs.Tick.{expires, isTimed, tickTask, tickTasks, effect}
 use Rattle.ranks.proofs.Lists.{at-mapped, length-mapped}
-use Rattle.ranks.proofs.Tests.{both, and, either, same?}
+use Rattle.ranks.proofs.Tests.{both}
 use Rattle.specification.proofs.Rules.{Ready, Waiting, task-rules, ready-sound, waiting-sound}
-use Rattle.ranks.proofs.Ranks.{Ranked, frame}
+use Rattle.ranks.proofs.Ranks.{frame}
 use Rattle.specification.proofs.SoundFacts.{Sized, SoundFacts}
 use Rattle.theorems.proofs.KeptQueues.{at-both, same, waiting-like, waiting-same, buffer-kept, limits-kept}
 use Rattle.theorems.proofs.SoundLeave.{leave-sound}
@@ -29,22 +26,22 @@ use Rattle.theorems.proofs.SoundSubmit.{readyWith-ready}
 
 -- ---- A task whose ticks change
 
-module _ (s : State) (g : SoundFacts s) (t n : ℕ) (t< : t < 32) (zero-stays : taskAt s t .ticksLeft ≡ 0 → n ≡ 0) where
+module _ (s : State) (g : SoundFacts s) (t n : ℕ) (t< : t < taskCount) (zero-stays : taskAt s t .ticksLeft ≡ 0 → n ≡ 0) where
   abbrev pub ticked : State
   ticked = record { queues = s .queues; pool = s .pool; tasks = mapWithIndex (atIndex t (withTicks n)) (s .tasks) }
 
-  after : (j : ℕ) → j < 32 → taskAt ticked j ≡ atIndex t (withTicks n) j (taskAt s j)
+  after : (j : ℕ) → j < taskCount → taskAt ticked j ≡ atIndex t (withTicks n) j (taskAt s j)
   after j h = at-mapped (atIndex t (withTicks n)) (s .tasks) j (freshTask 1) (freshTask 1) (omega (arith, g .sized .tasks))
 
   -- what does not look at the ticks stays
-  same-field : {B : Type 0} (F : Task → B) → ((w : Task) → F (withTicks n w) ≡ F w) → (j : ℕ) → j < 32 → F (taskAt ticked j) ≡ F (taskAt s j)
+  same-field : {B : Type 0} (F : Task → B) → ((w : Task) → F (withTicks n w) ≡ F w) → (j : ℕ) → j < taskCount → F (taskAt ticked j) ≡ F (taskAt s j)
   same-field F e j h =
       ap F (after j h) ∙ at-both (λ _ w. F w ≡ F (taskAt s j)) t (withTicks n) j (taskAt s j) (λ _. e (taskAt s j)) (λ _. refl)
 
-  position′ : (j : ℕ) → j < 32 → taskAt ticked j .position ≡ taskAt s j .position
+  position′ : (j : ℕ) → j < taskCount → taskAt ticked j .position ≡ taskAt s j .position
   position′ = same-field (λ w. w .position) (λ w. refl)
 
-  task′ : (j : ℕ) → j < 32 → soundTask ticked j (taskAt ticked j) ≡ true
+  task′ : (j : ℕ) → j < taskCount → soundTask ticked j (taskAt ticked j) ≡ true
   unfolding taskRules
   task′ j h =
       subst (λ (w : Task). soundTask ticked j w ≡ true) (sym (after j h))
@@ -86,7 +83,7 @@ module _ (s : State) (g : SoundFacts s) (t n : ℕ) (t< : t < 32) (zero-stays : 
         messages = g .messages;
         waiters =
             λ i h.
-            frame 32 (λ j. taskAt s j .position) (λ j. taskAt ticked j .position) i (queueAt s i .waiters) (λ j hj _. position′ j hj)
+            frame taskCount (λ j. taskAt s j .position) (λ j. taskAt ticked j .position) i (queueAt s i .waiters) (λ j hj _. position′ j hj)
             (λ j hj e. sym (ap (λ (p : Position). p .queue) (position′ j hj)) ∙ e) (g .waiters i h);
         order =
             λ i h p a b ha hb qa qb lt.
@@ -105,13 +102,13 @@ module _ (s : State) (g : SoundFacts s) (t n : ℕ) (t< : t < 32) (zero-stays : 
 -- ---- One task's tick
 
 -- a task that expires waits at its place
-pub expires-waits : (s : State) → SoundFacts s → (t : ℕ) → t < 32 → expires (taskAt s t) ≡ true → Waiting s t (taskAt s t)
+pub expires-waits : (s : State) → SoundFacts s → (t : ℕ) → t < taskCount → expires (taskAt s t) ≡ true → Waiting s t (taskAt s t)
 expires-waits s g t h e =
     ⊎-elim
-    (λ r. absurd (let a : taskAt s t .state ≡ 1 = eqb-true _ _ (both (isWaiting (taskAt s t)) _ e .0) in let b = r .state in omega arith))
+    (λ r. absurd (let a : taskAt s t .state ≡ waitingState = eqb-true _ _ (both (isWaiting (taskAt s t)) _ e .0) in let b = r .state in omega arith))
     (λ w. w) (task-rules s t _ (g .task t h))
 
-pub tickTask-sound : (s : State) → SoundFacts s → (t : ℕ) → t < 32 → SoundFacts (tickTask s t)
+pub tickTask-sound : (s : State) → SoundFacts s → (t : ℕ) → t < taskCount → SoundFacts (tickTask s t)
 unfolding tickTask taskRules
 tickTask-sound s g t h = go (expires (taskAt s t)) refl
   where
@@ -122,7 +119,7 @@ tickTask-sound s g t h = go (expires (taskAt s t)) refl
     leaves : Waiting s t (taskAt s t) → SoundFacts (leave s t (slotIn (taskAt s t .position)) (taskAt s t .position .rank) (readyWith TIMEOUT))
     leaves w =
         subst (λ (k : ℕ). SoundFacts (leave s t (pred k) (taskAt s t .position .rank) (readyWith TIMEOUT))) (sym (w .queue))
-        (leave-sound s g t (w .slot) (readyWith TIMEOUT) h (w .within16) (w .queue)
+        (leave-sound s g t (w .slot) (readyWith TIMEOUT) h (w .slotBelow) (w .queue)
         (readyWith-ready s g t h TIMEOUT refl)
         (λ w. refl))
 
@@ -146,11 +143,11 @@ unfolding numbersFrom
 below-range N i zero h = tt
 below-range N i (suc n) h = (omega arith, below-range N (suc i) n (omega arith))
 
-pub tickTasks-sound : (s : State) (ts : List ℕ) → SoundFacts s → Below 32 ts → SoundFacts (tickTasks s ts)
+pub tickTasks-sound : (s : State) (ts : List ℕ) → SoundFacts s → Below taskCount ts → SoundFacts (tickTasks s ts)
 unfolding tickTasks
 tickTasks-sound s [] g b = g
 tickTasks-sound s (t ∷ ts) g b = tickTasks-sound (tickTask s t) ts (tickTask-sound s g t (b .0)) (b .1)
 
 pub tick-sound : (s : State) → SoundFacts s → SoundFacts (effect s .after)
 unfolding effect
-tick-sound s g = tickTasks-sound s (numbersFrom 0 32) g (below-range 32 0 32 (omega arith))
+tick-sound s g = tickTasks-sound s (numbersFrom 0 taskCount) g (below-range taskCount 0 taskCount (omega arith))

@@ -1,32 +1,34 @@
 -- A caller that waits, and receive, leave sound tables. Assumes nothing.
-use Prim.Native.Nat.{ℕ, suc, _-_, _≤_, _<_}
+use Prim.Native.Nat.{ℕ, suc, _≤_, _<_}
 use native.Mathlib.Omega.{arith}
 use mathlib.Core.Path.{_≡_, refl, sym, ap, _∙_, subst}
 use mathlib.Core.Bool.{Bool, true, false, _||_}
 use mathlib.Core.Logic.{_⊎_, inl, inr, ⊎-elim}
 use lib.Dec.{eqb}
 use borrow.Author.Tests.{ne-eqb, ltb-true, ltb-false}
-use Rattle.ranks.specs.Lists.{if_then_else_, mapWithIndex}
-use Rattle.records.specs.Layout.{slotOf}
+use Rattle.ranks.specs.Lists.{if_then_else_}
+use Rattle.records.specs.Layout.{slotOf, slotCount, taskCount, bufferCount}
 use Rattle.records.specs.Split.{shareOfSlot, shareOfTask}
 use Rattle.ranks.specs.Position.{Position, positionAt}
-use Rattle.records.specs.Records.{Queue, Task, State, queueAt, bufferAt, taskAt, freshTask, hasPriority, isOpen, isWaiting}
+use Rattle.records.specs.Records.{Queue, Task, State, queueAt, bufferAt, taskAt, hasPriority, isOpen, isWaiting}
 use Rattle.ranks.specs.Steps.{inserted}
 use Rattle.specification.specs.Sound.{soundTask, taskRules}
 use Rattle.specification.specs.Lookup.{usable, firstMessage, hasMessage}
 use Rattle.specification.specs.Receive.{received, waitRank, waiting, effect}
-use Rattle.records.specs.Changes.{atIndex, waitingAt, moveTask, withWaiters}
-use Rattle.ranks.proofs.Lists.{at-mapped, length-mapped, holds}
+use Rattle.records.specs.Changes.{waitingAt, moveTask, withWaiters}
+use Rattle.ranks.proofs.Lists.{length-mapped, holds}
 use Rattle.ranks.proofs.Tests.{same?}
 use Rattle.specification.proofs.Rules.{Live, Ready, Waiting, live-sound, waiting-sound}
-use Rattle.ranks.proofs.Ranks.{Ranked, in-itself, in-moved, insert-all, was, insert-other, Agree, Came, before, after, came-mono}
-use Rattle.specification.proofs.SoundFacts.{Sized, SoundFacts, Ordered}
-use Rattle.theorems.proofs.KeptQueues.{if-at, moved-task, live-waiters, live-of, Same, Kept, waiting-kept, buffer-kept}
+use Rattle.ranks.proofs.Ranks.{in-itself, in-moved, insert-all, was, insert-other, Agree, Came, before, after, came-mono}
+use Rattle.specification.proofs.SoundFacts.{Sized, SoundFacts, Ordered, tasks-ranked}
+use Rattle.theorems.proofs.ListSteps.{stepped-at, stepped-changed}
+use Rattle.theorems.proofs.KeptQueues.{if-at, moved-task, live-waiters, live-of, Kept, waiting-kept, buffer-kept, same-but-counts}
 use Rattle.theorems.proofs.SoundReceive.{is-ready, first-holds, none-held, received-sound, waitRank-bound, ahead-of, behind-of}
 use Rattle.theorems.proofs.SoundSubmit.{own-rules}
 use Rattle.theorems.proofs.CountChange
+use Rattle.theorems.proofs.CountChange.{QueueChanged}
 
-module _ (s : State) (g : SoundFacts s) (caller slot ticks : ℕ) (caller< : caller < 32) (slot< : slot < 16) (rdy : Ready (taskAt s caller))
+module _ (s : State) (g : SoundFacts s) (caller slot ticks : ℕ) (caller< : caller < taskCount) (slot< : slot < slotCount) (rdy : Ready (taskAt s caller))
     (live : queueAt s slot .live ≡ 1) (empty : queueAt s slot .pending ≡ 0)
     (may : (eqb (shareOfSlot slot) (shareOfTask caller) || isOpen (queueAt s slot)) ≡ true) where
   abbrev rank : ℕ
@@ -47,27 +49,26 @@ module _ (s : State) (g : SoundFacts s) (caller slot ticks : ℕ) (caller< : cal
       record
       { queues = length-mapped _ (s .queues) ∙ g .sized .queues; pool = g .sized .pool; tasks = length-mapped _ (s .tasks) ∙ g .sized .tasks }
 
-  queues′ : s′ .queues ≡ mapWithIndex (atIndex slot more) (s .queues)
+  change : QueueChanged s s′ slot more
   unfolding waiting
-  queues′ = refl
+  change = record { facts = g; sized = sized′; inside = slot<; queues = refl }
 
-  task-after : (j : ℕ) → j < 32
-      → taskAt s′ j ≡ (if eqb j caller then waitingAt (positionAt slot rank) ticks (taskAt s j) else moveTask (inserted caller slot rank j (P j)) (taskAt s j))
+  abbrev waits : Task → Task
+  waits w = waitingAt (positionAt slot rank) ticks w
+
+  task-after : (j : ℕ) → j < taskCount → taskAt s′ j ≡ (if eqb j caller then waits (taskAt s j) else moveTask (inserted caller slot rank j (P j)) (taskAt s j))
   unfolding waiting
-  task-after j h =
-      at-mapped (λ j w. if eqb j caller then waitingAt (positionAt slot rank) ticks w else moveTask (inserted caller slot rank j (w .position)) w) (s .tasks) j
-      (freshTask 1) (freshTask 1) (omega (arith, g .sized .tasks))
+  task-after = stepped-at (tasks-ranked s g slot slot<) moveTask caller waits (inserted caller slot rank)
 
-  task-other : (j : ℕ) → j < 32 → (j ≡ caller → ⊥) → taskAt s′ j ≡ moveTask (inserted caller slot rank j (P j)) (taskAt s j)
+  task-other : (j : ℕ) → j < taskCount → (j ≡ caller → ⊥) → taskAt s′ j ≡ moveTask (inserted caller slot rank j (P j)) (taskAt s j)
   task-other j h ne = task-after j h ∙ rw (ne-eqb j caller ne)
 
-  position-after : (j : ℕ) → j < 32 → taskAt s′ j .position ≡ inserted caller slot rank j (P j)
-  position-after j h =
-      ap (λ (w : Task). w .position) (task-after j h)
-      ∙ if-at (λ w. w .position ≡ inserted caller slot rank j (P j)) j caller (waitingAt (positionAt slot rank) ticks (taskAt s j)) _
-      (λ e. sym (subst (λ (k : ℕ). inserted caller slot rank k (P j) ≡ positionAt slot rank) (sym e) (in-itself caller slot rank (P j)))) (λ _. refl)
+  position-after : (j : ℕ) → j < taskCount → taskAt s′ j .position ≡ inserted caller slot rank j (P j)
+  unfolding waiting
+  position-after =
+      stepped-changed (tasks-ranked s g slot slot<) moveTask caller waits (inserted caller slot rank) (λ p w. refl) (λ w. sym (in-itself caller slot rank (w .position)))
 
-  priority′ : (j : ℕ) → j < 32 → taskAt s′ j .priority ≡ taskAt s j .priority
+  priority′ : (j : ℕ) → j < taskCount → taskAt s′ j .priority ≡ taskAt s j .priority
   priority′ j h =
       ap (λ (w : Task). w .priority) (task-after j h)
       ∙ if-at (λ w. w .priority ≡ taskAt s j .priority) j caller (waitingAt (positionAt slot rank) ticks (taskAt s j)) _ (λ _. refl) (λ _. refl)
@@ -75,21 +76,18 @@ module _ (s : State) (g : SoundFacts s) (caller slot ticks : ℕ) (caller< : cal
   is-live : Live (queueAt s slot)
   is-live = live-of _ (g .queue slot slot<) (inr (inr live))
 
-  like : Same (queueAt s slot) (more (queueAt s slot))
-  like = record { live = refl; attributes = refl; limit = refl; maxSize = refl }
-
   kept : Kept s s′
-  kept = CountChange.kept s s′ g sized′ slot slot< more queues′ like
+  kept = CountChange.kept change (same-but-counts _ _ _)
 
   -- ---- The order of the queue
 
   module _ (p : hasPriority (queueAt s slot) ≡ true) where
     -- the place of another task of the queue afterwards
-    came : (j : ℕ) → j < 32 → taskAt s′ j .position .queue ≡ suc slot → (j ≡ caller → ⊥)
+    came : (j : ℕ) → j < taskCount → taskAt s′ j .position .queue ≡ suc slot → (j ≡ caller → ⊥)
         → (P j .queue ≡ suc slot) × Came rank (P j .rank) (taskAt s′ j .position .rank)
     came j h q ne =
         let (a, c) =
-        was 32 P slot (queueAt s slot .waiters) caller rank caller< (rdy .queue) (waitRank-bound s g caller slot slot<) (g .waiters slot slot<) j h
+        was taskCount P slot (queueAt s slot .waiters) caller rank caller< (rdy .queue) (waitRank-bound s g caller slot slot<) (g .waiters slot slot<) j h
         (sym (ap (λ (x : Position). x .queue) (position-after j h)) ∙ q) ne in
         (a, subst (λ (n : ℕ). Came rank (P j .rank) n) (sym (ap (λ (x : Position). x .rank) (position-after j h))) c)
 
@@ -135,12 +133,12 @@ module _ (s : State) (g : SoundFacts s) (caller slot ticks : ℕ) (caller< : cal
             omega (arith, pa, pb)
 
   -- another queue's tasks are as they were
-  agree : (i j : ℕ) → (i ≡ slot → ⊥) → j < 32 → Agree i (P j) (taskAt s′ j .position)
+  agree : (i j : ℕ) → (i ≡ slot → ⊥) → j < taskCount → Agree i (P j) (taskAt s′ j .position)
   agree i j ne h =
       subst (λ (x : Position). Agree i (P j) x) (sym (position-after j h))
       (insert-other caller slot rank i j (P j) ne (λ e. ap (λ (k : ℕ). P k .queue) e ∙ rdy .queue))
 
-  order′ : (i : ℕ) → i < 16 → hasPriority (queueAt s i) ≡ true → Ordered s′ i
+  order′ : (i : ℕ) → i < slotCount → hasPriority (queueAt s i) ≡ true → Ordered s′ i
   order′ i h p = ⊎-elim this other (same? i slot)
     where
       this : i ≡ slot → Ordered s′ i
@@ -160,7 +158,7 @@ module _ (s : State) (g : SoundFacts s) (caller slot ticks : ℕ) (caller< : cal
 
   -- ---- Tasks
 
-  task′ : (j : ℕ) → j < 32 → soundTask s′ j (taskAt s′ j) ≡ true
+  task′ : (j : ℕ) → j < taskCount → soundTask s′ j (taskAt s′ j) ≡ true
   unfolding taskRules
   task′ j h =
       subst (λ (w : Task). soundTask s′ j w ≡ true) (sym (task-after j h))
@@ -176,7 +174,7 @@ module _ (s : State) (g : SoundFacts s) (caller slot ticks : ℕ) (caller< : cal
             state = refl;
             slot = slot;
             queue = refl;
-            within16 = slot<;
+            slotBelow = slot<;
             live = live;
             access = may;
             status = refl;
@@ -186,14 +184,14 @@ module _ (s : State) (g : SoundFacts s) (caller slot ticks : ℕ) (caller< : cal
   pub wait-sound : SoundFacts (waiting s caller slot (waitRank s caller slot) ticks .after)
   unfolding waiting
   wait-sound =
-      CountChange.counted s s′ g sized′ slot slot< more queues′ like
+      CountChange.counted change (same-but-counts _ _ _)
       (live-sound _ (live-waiters _ _ (inl empty) is-live))
       (λ b h. buffer-kept s s′ b (bufferAt s b) kept (g .buffer b h))
-      (CountChange.of-each s s′ g sized′ slot slot< more queues′ (λ i q. Ranked 64 (λ b. bufferAt s b .position) i (q .pending)) (g .messages slot slot<) (g .messages))
-      (insert-all 32 16 P (λ j. taskAt s′ j .position) (λ i. queueAt s i .waiters) (λ i. queueAt s′ i .waiters) slot (g .waiters)
-      (λ i h ne. ap (λ (q : Queue). q .waiters) (CountChange.other s s′ g sized′ slot slot< more queues′ i h ne))
+      (CountChange.messages-stay change refl)
+      (insert-all taskCount slotCount P (λ j. taskAt s′ j .position) (λ i. queueAt s i .waiters) (λ i. queueAt s′ i .waiters) slot (g .waiters)
+      (λ i h ne. ap (λ (q : Queue). q .waiters) (CountChange.other change i h ne))
       caller rank caller< slot< (rdy .queue) (waitRank-bound s g caller slot slot<)
-      (ap (λ (q : Queue). q .waiters) (CountChange.here s s′ g sized′ slot slot< more queues′)) position-after)
+      (ap (λ (q : Queue). q .waiters) (CountChange.here change)) position-after)
       order′
       task′
 
@@ -204,7 +202,7 @@ pub usable-may : (s : State) (caller id : ℕ) → usable s caller id ≡ true
 unfolding usable
 usable-may s caller id u = holds _ u .1 .1 .0
 
-pub receive-sound : (s : State) → SoundFacts s → (caller slot ticks : ℕ) → caller < 32 → isWaiting (taskAt s caller) ≡ false → slot < 16
+pub receive-sound : (s : State) → SoundFacts s → (caller slot ticks : ℕ) → caller < taskCount → isWaiting (taskAt s caller) ≡ false → slot < slotCount
     → queueAt s slot .live ≡ 1 → (eqb (shareOfSlot slot) (shareOfTask caller) || isOpen (queueAt s slot)) ≡ true
     → SoundFacts (effect s caller slot ticks .after)
 unfolding effect
@@ -216,7 +214,7 @@ receive-sound s g caller slot ticks caller< ready slot< live may = go (hasMessag
     go : (b : Bool) → hasMessage s slot ≡ b
         → SoundFacts ((if b then received s caller slot (firstMessage s slot) else waiting s caller slot (waitRank s caller slot) ticks) .after)
     go true e =
-        let lt : firstMessage s slot < 64 = ltb-true _ _ e in
+        let lt : firstMessage s slot < bufferCount = ltb-true _ _ e in
         let (q, r) = first-holds s (g .sized) slot lt in
         received-sound s g caller slot (firstMessage s slot) caller< slot< lt rdy q r
     go false e = wait-sound s g caller slot ticks caller< slot< rdy live (none-held s g slot slot< (ltb-false _ _ e)) may

@@ -6,10 +6,10 @@ use mathlib.Core.Bool.{Bool, true, false, _&&_, _||_, true≢false, false≢true
 use mathlib.Core.List.{List, [], _∷_}
 use lib.Dec.{eqb, ltb}
 use lib.ListN.{length}
-use borrow.Author.Tests.{eqb-true, ne-eqb, ltb-true, leb-false}
+use borrow.Author.Tests.{eqb-true, ne-eqb, ltb-true}
 use Rattle.ranks.specs.Lists.{if_then_else_, mapWithIndex, firstTrue, allTrue, mask, countTrue, sumOf, minimum}
 use Rattle.ranks.specs.Position.{standsAt, inQueue}
-use Rattle.records.specs.Layout.{slotOf, idOf}
+use Rattle.records.specs.Layout.{slotOf, idOf, slotCount, bufferCount, taskCount}
 use Rattle.records.specs.Split.{shareOfSlot, shareOfBuffer, shareOfTask}
 use Rattle.records.specs.Records.{Queue, Buffer, Task, State, queueAt, taskAt, freeQueue, freeBuffer, freshTask, isLive, isOpen, hasPriority}
 use Rattle.specification.specs.Sound.{limits}
@@ -22,6 +22,7 @@ use Rattle.specification.specs.Step.{badCaller, commonRefusals, operationRefusa
 use Rattle.theorems.specs.Noninterference.{isCallOf, confinedDirective, isConfined}
 use Rattle.ranks.proofs.Lists.{holds, at-mapped, first-true, length-mapped, mapped-cong}
 use Rattle.ranks.proofs.Tests.{both}
+use Rattle.specification.proofs.Accepted.{Accepted, accepted-facts, creatable, name-found}
 use Rattle.specification.proofs.SoundFacts.{Sized, is-sound}
 use Rattle.specification.proofs.OnRecords.{callOnRecords}
 use Rattle.specification.proofs.Refused.{None}
@@ -50,7 +51,7 @@ and-false true e = e
 and-false false e = refl
 
 -- the slot that an ident finds is of the share
-named-found : (s : State) → Sized s → (caller name share : ℕ) → Ident.named s caller name share < 16 → shareOfSlot (Ident.named s caller name share) ≡ share
+named-found : (s : State) → Sized s → (caller name share : ℕ) → Ident.named s caller name share < slotCount → shareOfSlot (Ident.named s caller name share) ≡ share
 unfolding Ident.named
 named-found s z caller name share h =
     let lt : Ident.named s caller name share < length (s .queues) = omega (arith, z .queues) in
@@ -69,14 +70,14 @@ module _ {x : ℕ} {s s′ : State} (p : Confined x s) (p′ : Confined x s′) 
 
   -- ---- The same is done to each record
 
-  pub queues-same : (F : ℕ → Queue → Queue) → SameAt shareOfSlot x 16 (freeQueue 0) (mapWithIndex F (s .queues)) (mapWithIndex F (s′ .queues))
-  queues-same F = same-mapped shareOfSlot x 16 (freeQueue 0) F (s .queues) (s′ .queues) (z .queues) (z′ .queues) (e .queues)
+  pub queues-same : (F : ℕ → Queue → Queue) → SameAt shareOfSlot x slotCount (freeQueue 0) (mapWithIndex F (s .queues)) (mapWithIndex F (s′ .queues))
+  queues-same F = same-mapped shareOfSlot x slotCount (freeQueue 0) F (s .queues) (s′ .queues) (z .queues) (z′ .queues) (e .queues)
 
-  pool-same : (F : ℕ → Buffer → Buffer) → SameAt shareOfBuffer x 64 freeBuffer (mapWithIndex F (s .pool)) (mapWithIndex F (s′ .pool))
-  pool-same F = same-mapped shareOfBuffer x 64 freeBuffer F (s .pool) (s′ .pool) (z .pool) (z′ .pool) (e .pool)
+  pool-same : (F : ℕ → Buffer → Buffer) → SameAt shareOfBuffer x bufferCount freeBuffer (mapWithIndex F (s .pool)) (mapWithIndex F (s′ .pool))
+  pool-same F = same-mapped shareOfBuffer x bufferCount freeBuffer F (s .pool) (s′ .pool) (z .pool) (z′ .pool) (e .pool)
 
-  pub tasks-same : (F : ℕ → Task → Task) → SameAt shareOfTask x 32 (freshTask 1) (mapWithIndex F (s .tasks)) (mapWithIndex F (s′ .tasks))
-  tasks-same F = same-mapped shareOfTask x 32 (freshTask 1) F (s .tasks) (s′ .tasks) (z .tasks) (z′ .tasks) (e .tasks)
+  pub tasks-same : (F : ℕ → Task → Task) → SameAt shareOfTask x taskCount (freshTask 1) (mapWithIndex F (s .tasks)) (mapWithIndex F (s′ .tasks))
+  tasks-same F = same-mapped shareOfTask x taskCount (freshTask 1) F (s .tasks) (s′ .tasks) (z .tasks) (z′ .tasks) (e .tasks)
 
   -- ---- Searches and sums that look at the share's records alone
 
@@ -84,7 +85,7 @@ module _ {x : ℕ} {s s′ : State} (p : Confined x s) (p′ : Confined x s′) 
   queues-alike : {B : Type 0} (b : B) (F : ℕ → Queue → B) → ((i : ℕ) (q : Queue) → (shareOfSlot i ≡ x → ⊥) → F i q ≡ b)
       → mapWithIndex F (s .queues) ≡ mapWithIndex F (s′ .queues)
   queues-alike b F off =
-      like-outside shareOfSlot x 16 (freeQueue 0) b F (s .queues) (s′ .queues) (z .queues) (z′ .queues) (e .queues) off
+      like-outside shareOfSlot x slotCount (freeQueue 0) b F (s .queues) (s′ .queues) (z .queues) (z′ .queues) (e .queues) off
 
   same-freeSlot : Create.freeSlot s x ≡ Create.freeSlot s′ x
   unfolding Create.freeSlot
@@ -102,12 +103,12 @@ module _ {x : ℕ} {s s′ : State} (p : Confined x s) (p′ : Confined x s′) 
   unfolding freeBufferOf
   same-freeBuffer =
       ap firstTrue
-      (like-outside shareOfBuffer x 64 freeBuffer false (isFreeOf x) (s .pool) (s′ .pool) (z .pool) (z′ .pool) (e .pool)
+      (like-outside shareOfBuffer x bufferCount freeBuffer false (isFreeOf x) (s .pool) (s′ .pool) (z .pool) (z′ .pool) (e .pool)
       (λ b m n. and-false (eqb (m .position .queue) 0) (ne-eqb _ _ n)))
 
   -- ---- Create and ident
 
-  create-consistent : (slot name limit maxSize attributes : ℕ) → slot < 16 → shareOfSlot slot ≡ x
+  create-consistent : (slot name limit maxSize attributes : ℕ) → slot < slotCount → shareOfSlot slot ≡ x
       → Consistent x (Create.effect s slot name limit maxSize attributes) (Create.effect s′ slot name limit maxSize attributes)
   unfolding Create.effect
   create-consistent slot name limit maxSize attributes h o =
@@ -116,14 +117,14 @@ module _ {x : ℕ} {s s′ : State} (p : Confined x s) (p′ : Confined x s′) 
         after = record { queues = queues-same _; pool = e .pool; tasks = e .tasks };
       }
 
-  ident-consistent : (slot : ℕ) → slot < 16 → shareOfSlot slot ≡ x → Consistent x (Ident.effect s slot) (Ident.effect s′ slot)
+  ident-consistent : (slot : ℕ) → slot < slotCount → shareOfSlot slot ≡ x → Consistent x (Ident.effect s slot) (Ident.effect s′ slot)
   unfolding Ident.effect
   ident-consistent slot h o =
       record { answer = ap (λ (q : Queue). outcome 0 (idOf (q .generation) slot) 0 s .answer) (e .queues slot h o); after = e }
 
   -- ---- Directives on a queue of the share
 
-  module _ (slot : ℕ) (slot< : slot < 16) (own : shareOfSlot slot ≡ x) where
+  module _ (slot : ℕ) (slot< : slot < slotCount) (own : shareOfSlot slot ≡ x) where
     same-queue : queueAt s slot ≡ queueAt s′ slot
     same-queue = e .queues slot slot< own
 
@@ -131,12 +132,12 @@ module _ {x : ℕ} {s s′ : State} (p : Confined x s) (p′ : Confined x s′) 
     waiters-alike : {B : Type 0} (b : B) (F : ℕ → Task → B) → ((t : ℕ) (w : Task) → (w .position .queue ≡ suc slot → ⊥) → F t w ≡ b)
         → mapWithIndex F (s .tasks) ≡ mapWithIndex F (s′ .tasks)
     waiters-alike b F off =
-        like-in shareOfTask (λ w. w .position) x 32 (freshTask 1) slot own b F (s .tasks) (s′ .tasks) (z .tasks) (z′ .tasks) (e .tasks) (tasks-in-own p) (tasks-in-own p′) off
+        like-in shareOfTask (λ w. w .position) x taskCount (freshTask 1) slot own b F (s .tasks) (s′ .tasks) (z .tasks) (z′ .tasks) (e .tasks) (tasks-in-own p) (tasks-in-own p′) off
 
     messages-alike : {B : Type 0} (b : B) (F : ℕ → Buffer → B) → ((j : ℕ) (m : Buffer) → (m .position .queue ≡ suc slot → ⊥) → F j m ≡ b)
         → mapWithIndex F (s .pool) ≡ mapWithIndex F (s′ .pool)
     messages-alike b F off =
-        like-in shareOfBuffer (λ m. m .position) x 64 freeBuffer slot own b F (s .pool) (s′ .pool) (z .pool) (z′ .pool) (e .pool) (pool-in-own p) (pool-in-own p′) off
+        like-in shareOfBuffer (λ m. m .position) x bufferCount freeBuffer slot own b F (s .pool) (s′ .pool) (z .pool) (z′ .pool) (e .pool) (pool-in-own p) (pool-in-own p′) off
 
     same-firstWaiter : firstWaiter s slot ≡ firstWaiter s′ slot
     unfolding firstWaiter
@@ -150,7 +151,7 @@ module _ {x : ℕ} {s s′ : State} (p : Confined x s) (p′ : Confined x s′) 
     unfolding firstMessage
     same-firstMessage = ap firstTrue (messages-alike false (λ b m. standsAt slot 0 (m .position)) (λ b m n. rw (ne-eqb _ _ n)))
 
-    same-waitRank : (caller : ℕ) → caller < 32 → shareOfTask caller ≡ x → waitRank s caller slot ≡ waitRank s′ caller slot
+    same-waitRank : (caller : ℕ) → caller < taskCount → shareOfTask caller ≡ x → waitRank s caller slot ≡ waitRank s′ caller slot
     unfolding waitRank
     same-waitRank caller h o =
         rw (← same-queue, ← e .tasks caller h o)
@@ -199,7 +200,7 @@ module _ {x : ℕ} {s s′ : State} (p : Confined x s) (p′ : Confined x s′) 
           after = record { queues = queues-same _; pool = e .pool; tasks = tasks-same _ };
         }
 
-    received-consistent : (caller b : ℕ) → b < 64 → shareOfBuffer b ≡ x → Consistent x (received s caller slot b) (received s′ caller slot b)
+    received-consistent : (caller b : ℕ) → b < bufferCount → shareOfBuffer b ≡ x → Consistent x (received s caller slot b) (received s′ caller slot b)
     unfolding received
     received-consistent caller b h o =
         rw (← e .pool b h o) (record { answer = refl; after = record { queues = queues-same _; pool = pool-same _; tasks = tasks-same _ } })
@@ -208,7 +209,7 @@ module _ {x : ℕ} {s s′ : State} (p : Confined x s) (p′ : Confined x s′) 
     unfolding waiting
     waiting-consistent caller rank ticks = record { answer = refl; after = record { queues = queues-same _; pool = e .pool; tasks = tasks-same _ } }
 
-    receive-consistent : (caller ticks : ℕ) → caller < 32 → shareOfTask caller ≡ x → Consistent x (Receive.effect s caller slot ticks) (Receive.effect s′ caller slot ticks)
+    receive-consistent : (caller ticks : ℕ) → caller < taskCount → shareOfTask caller ≡ x → Consistent x (Receive.effect s caller slot ticks) (Receive.effect s′ caller slot ticks)
     unfolding Receive.effect
     receive-consistent caller ticks h o = rw (← same-firstMessage, ← same-waitRank caller h o) (go (hasMessage s slot) refl)
       where
@@ -216,7 +217,7 @@ module _ {x : ℕ} {s s′ : State} (p : Confined x s) (p′ : Confined x s′) 
             → Consistent x (if b then received s caller slot (firstMessage s slot) else waiting s caller slot (waitRank s caller slot) ticks)
             (if b then received s′ caller slot (firstMessage s slot) else waiting s′ caller slot (waitRank s caller slot) ticks)
         go true k =
-            let lt : firstMessage s slot < 64 = ltb-true _ _ k in
+            let lt : firstMessage s slot < bufferCount = ltb-true _ _ k in
             received-consistent caller (firstMessage s slot) lt (pool-in-own p .of-queue _ slot lt (first-holds s z slot lt .0) own)
         go false k = waiting-consistent caller (waitRank s caller slot) ticks
 
@@ -244,7 +245,7 @@ module _ {x : ℕ} {s s′ : State} (p : Confined x s) (p′ : Confined x s′) 
     same-operationRefusals caller getNumberPending = refl
     same-operationRefusals caller flush = refl
 
-    operation-consistent : (caller : ℕ) → caller < 32 → shareOfTask caller ≡ x → (o : Operation)
+    operation-consistent : (caller : ℕ) → caller < taskCount → shareOfTask caller ≡ x → (o : Operation)
         → Consistent x (operationEffect s caller slot o) (operationEffect s′ caller slot o)
     unfolding operationEffect
     operation-consistent caller h k delete = delete-consistent
@@ -257,7 +258,7 @@ module _ {x : ℕ} {s s′ : State} (p : Confined x s) (p′ : Confined x s′) 
 
   -- ---- The share's own call
 
-  module _ (caller : ℕ) (caller< : caller < 32) (own : shareOfTask caller ≡ x) where
+  module _ (caller : ℕ) (caller< : caller < taskCount) (own : shareOfTask caller ≡ x) where
     same-directiveRefusals : (d : Directive) → confinedDirective x d ≡ true → directiveRefusals s caller d ≡ directiveRefusals s′ caller d
     unfolding directiveRefusals confinedDirective Create.refusals Ident.refusals usable
     same-directiveRefusals (create name limit maxSize attributes) k = rw (own, same-freeSlot, same-limits)
@@ -268,23 +269,23 @@ module _ {x : ℕ} {s s′ : State} (p : Confined x s) (p′ : Confined x s′) 
 
     directive-consistent : (d : Directive) → confinedDirective x d ≡ true → None (directiveRefusals s caller d)
         → Consistent x (effect s (call caller d)) (effect s′ (call caller d))
-    unfolding directiveRefusals confinedDirective effect Create.refusals Ident.refusals
-    directive-consistent (create name limit maxSize attributes) k (_, (_, (_, (_, (f, _))))) =
-        let lt : Create.freeSlot s x < 16 = leb-false _ _ (rw own at f) in
+    unfolding directiveRefusals confinedDirective effect
+    directive-consistent (create name limit maxSize attributes) k n =
+        let lt : Create.freeSlot s x < slotCount = rw own at (creatable s (shareOfTask caller) name limit maxSize attributes n .slotBelow) in
         rw (own, ← same-freeSlot) (create-consistent (Create.freeSlot s x) name limit maxSize attributes lt (slot-found s z x lt .1))
-    directive-consistent (ident name share) k (_, (_, (f, _))) =
+    directive-consistent (ident name share) k n =
         let q : share ≡ x = eqb-true _ _ k in
-        let lt : Ident.named s caller name x < 16 = leb-false _ _ (rw q at f) in
+        let lt : Ident.named s caller name x < slotCount = rw q at (name-found s caller name share n) in
         rw (q, ← same-named caller name) (ident-consistent (Ident.named s caller name x) lt (named-found s z caller name x lt))
     directive-consistent (onQueue id operation) k n = operation-consistent (slotOf id) (slot-below id) (eqb-true _ _ k) caller caller< own operation
 
   pub own-consistent : (c : Call) → isCallOf x c ≡ true → isConfined x c ≡ true → Consistent x (callOnRecords s c) (callOnRecords s′ c)
-  unfolding callOnRecords isCallOf isConfined commonRefusals ownRefusals badCaller
+  unfolding callOnRecords isCallOf isConfined commonRefusals ownRefusals badCaller Accepted
   own-consistent (call caller d) o k =
-      let (a, b) = both (ltb caller 32) _ o in
-      let lt : caller < 32 = ltb-true _ _ a in
+      let (a, b) = both (ltb caller taskCount) _ o in
+      let lt : caller < taskCount = ltb-true _ _ a in
       let own : shareOfTask caller ≡ x = eqb-true _ _ b in
       refusals-consistent e _ _ _ _
       (rw (is-sound s (p .facts), is-sound s′ (p′ .facts), e .tasks caller lt own, same-directiveRefusals caller lt own d k))
-      (λ n. directive-consistent caller lt own d k (n .1 .1))
+      (λ n. directive-consistent caller lt own d k (accepted-facts s (call caller d) n .directive))
   own-consistent tick o k = absurd (false≢true o)

@@ -7,6 +7,7 @@ use mathlib.Core.List.{List, [], _∷_, map}
 use lib.Dec.{eqb}
 use borrow.Author.Tests.{eq-eqb, ne-eqb}
 use Rattle.ranks.specs.Lists.{if_then_else_, allTrue, bit, allZero, numbersFrom}
+use Rattle.records.specs.Layout.{taskCount}
 use Rattle.records.specs.Split.{shareOfTask}
 use Rattle.records.specs.Records.{State}
 use Rattle.specification.specs.Answer.{Answer}
@@ -30,23 +31,23 @@ unfolding numbersFrom
 map-range f g i zero h = refl
 map-range f g i (suc n) h = ap₂ (λ (b : ℕ) (l : List ℕ). b ∷ l) (h i (omega arith)) (map-range f g (suc i) n (λ t lt. h t (omega arith)))
 
-same-bits : (x m m′ : ℕ) → ((t : ℕ) → t < 32 → shareOfTask t ≡ x → bit t m ≡ bit t m′) → ownBits x m ≡ ownBits x m′
+same-bits : (x m m′ : ℕ) → ((t : ℕ) → t < taskCount → shareOfTask t ≡ x → bit t m ≡ bit t m′) → ownBits x m ≡ ownBits x m′
 unfolding ownBits
 same-bits x m m′ h =
-    map-range _ _ 0 32
+    map-range _ _ 0 taskCount
     (λ t lt.
     if-at (λ b. b ≡ (if eqb (shareOfTask t) x then bit t m′ else 0)) (shareOfTask t) x (bit t m) 0
     (λ o. rw (eq-eqb (shareOfTask t) x o) (h t (omega arith) o)) (λ n. rw (ne-eqb (shareOfTask t) x n)))
 
-all-zero : allZero (map (λ t. 0) (numbersFrom 0 32)) ≡ true
+all-zero : allZero (map (λ t. 0) (numbersFrom 0 taskCount)) ≡ true
 unfolding numbersFrom allZero
 all-zero = refl
 
-no-bits : (x m : ℕ) → ((t : ℕ) → t < 32 → shareOfTask t ≡ x → bit t m ≡ 0) → allZero (ownBits x m) ≡ true
+no-bits : (x m : ℕ) → ((t : ℕ) → t < taskCount → shareOfTask t ≡ x → bit t m ≡ 0) → allZero (ownBits x m) ≡ true
 unfolding ownBits
 no-bits x m h =
     ap allZero
-    (map-range _ (λ t. 0) 0 32 (λ t lt. if-at (λ b. b ≡ 0) (shareOfTask t) x (bit t m) 0 (h t (omega arith)) (λ _. refl)))
+    (map-range _ (λ t. 0) 0 taskCount (λ t lt. if-at (λ b. b ≡ 0) (shareOfTask t) x (bit t m) 0 (h t (omega arith)) (λ _. refl)))
     ∙ all-zero
 
 -- ---- A run, and the share's own part of it

@@ -7,6 +7,7 @@ use mathlib.Core.Logic.{⊎-elim}
 use mathlib.Core.List.{List, [], _∷_}
 use borrow.Author.Tests.{ne-eqb}
 use Rattle.ranks.specs.Lists.{mapWithIndex, numbersFrom, bit}
+use Rattle.records.specs.Layout.{taskCount}
 use Rattle.records.specs.Split.{shareOfTask}
 use Rattle.records.specs.Records.{Task, State, taskAt, freshTask}
 use Rattle.records.specs.Changes.{readyWith}
@@ -30,7 +31,7 @@ use Rattle.specification.specs.Tick
 
 -- ---- A task of another share
 
-tick-respects : {x : ℕ} {s : State} → Confined x s → (t : ℕ) → t < 32 → (shareOfTask t ≡ x → ⊥) → Equivalent x s (tickTask s t)
+tick-respects : {x : ℕ} {s : State} → Confined x s → (t : ℕ) → t < taskCount → (shareOfTask t ≡ x → ⊥) → Equivalent x s (tickTask s t)
 unfolding tickTask
 tick-respects {x} {s} p t h n =
     tick-cases t (taskAt s t) (λ f. Equivalent x s (f s)) (λ e. leaves (expires-waits s (p .facts) t h e))
@@ -38,7 +39,7 @@ tick-respects {x} {s} p t h n =
       queues = λ i k o. refl;
       pool = λ i k o. refl;
       tasks =
-          still-mapped shareOfTask x 32 (freshTask 1) _ (s .tasks) (p .facts .sized .tasks)
+          still-mapped shareOfTask x taskCount (freshTask 1) _ (s .tasks) (p .facts .sized .tasks)
           (λ j k o. rw (ne-eqb j t (λ q. n (sym (ap shareOfTask q) ∙ o))));
     })
     (equivalent-refl x s)
@@ -49,7 +50,7 @@ tick-respects {x} {s} p t h n =
 -- ---- A task of the share, and all tasks in turn
 
 module _ {x : ℕ} {s s′ : State} (p : Confined x s) (p′ : Confined x s′) (e : Equivalent x s s′) where
-  tick-own : (t : ℕ) → t < 32 → shareOfTask t ≡ x → Equivalent x (tickTask s t) (tickTask s′ t)
+  tick-own : (t : ℕ) → t < taskCount → shareOfTask t ≡ x → Equivalent x (tickTask s t) (tickTask s′ t)
   unfolding tickTask leave
   tick-own t h o =
       rw (← e .tasks t h o)
@@ -57,12 +58,12 @@ module _ {x : ℕ} {s s′ : State} (p : Confined x s) (p′ : Confined x s′) 
       (λ _. record { queues = queues-same p p′ e _; pool = e .pool; tasks = tasks-same p p′ e _ })
       (record { queues = e .queues; pool = e .pool; tasks = tasks-same p p′ e _ }) e)
 
-  tickTask-equivalent : (t : ℕ) → t < 32 → Equivalent x (tickTask s t) (tickTask s′ t)
+  tickTask-equivalent : (t : ℕ) → t < taskCount → Equivalent x (tickTask s t) (tickTask s′ t)
   tickTask-equivalent t h =
       ⊎-elim (tick-own t h) (λ n. equivalent-trans (equivalent-sym (tick-respects p t h n)) (equivalent-trans e (tick-respects p′ t h n)))
       (same? (shareOfTask t) x)
 
-tickTasks-equivalent : {x : ℕ} {s s′ : State} (ts : List ℕ) → Below 32 ts → Confined x s → Confined x s′ → Equivalent x s s′
+tickTasks-equivalent : {x : ℕ} {s s′ : State} (ts : List ℕ) → Below taskCount ts → Confined x s → Confined x s′ → Equivalent x s s′
     → Equivalent x (tickTasks s ts) (tickTasks s′ ts)
 unfolding tickTasks
 tickTasks-equivalent [] b p p′ e = e
@@ -74,7 +75,7 @@ tickTasks-equivalent (t ∷ ts) b p p′ e =
 -- the same status, the same bits of x's tasks, and equivalent states; the values may differ
 pub record TickConsistent (x : ℕ) (o o′ : Outcome State) : Type 0 where
   pub status : o .answer .status ≡ o′ .answer .status
-  pub bits : (t : ℕ) → t < 32 → shareOfTask t ≡ x → bit t (o .answer .woken) ≡ bit t (o′ .answer .woken)
+  pub bits : (t : ℕ) → t < taskCount → shareOfTask t ≡ x → bit t (o .answer .woken) ≡ bit t (o′ .answer .woken)
   pub after : Equivalent x (o .after) (o′ .after)
 
 tick-accepted : (s : State) → SoundFacts s → callOnRecords s tick ≡ Tick.effect s
@@ -82,7 +83,7 @@ unfolding callOnRecords commonRefusals ownRefusals effect refuseIfAny
 tick-accepted s g = rw (is-sound s g)
 
 -- whether task `t` expires
-expires-bit : (s : State) → SoundFacts s → (t : ℕ) → t < 32 → bit t (Tick.effect s .answer .woken) ≡ one (expires (taskAt s t))
+expires-bit : (s : State) → SoundFacts s → (t : ℕ) → t < taskCount → bit t (Tick.effect s .answer .woken) ≡ one (expires (taskAt s t))
 unfolding Tick.effect
 expires-bit s g t h =
     bit-mask (mapWithIndex (λ t w. expires w) (s .tasks)) t
@@ -95,5 +96,5 @@ tick-consistent {x} {s} {s′} p p′ e =
     (record {
       status = refl;
       bits = λ t h o. expires-bit s (p .facts) t h ∙ ap (λ (w : Task). one (expires w)) (e .tasks t h o) ∙ sym (expires-bit s′ (p′ .facts) t h);
-      after = tickTasks-equivalent (numbersFrom 0 32) (below-range 32 0 32 (omega arith)) p p′ e;
+      after = tickTasks-equivalent (numbersFrom 0 taskCount) (below-range taskCount 0 taskCount (omega arith)) p p′ e;
     })

@@ -1,25 +1,39 @@
 -- `replay_cases::next_block` meets its contract. Assumes nothing.
 use native.Mathlib.Omega.{arith}
-use Prim.Native.Nat.{ℕ}
+use Prim.Native.Nat.{ℕ, _*_}
 use mathlib.Core.Path.{sym}
-use lib.Seq.{length-take-le}
-use Rattle.logio.proofs.Room.{block-room}
+use lib.ListN.{length-replicate}
+use Rattle.calllog.specs.CallLog.{answerWidth}
 use borrow.Author.Needs.{needs}
+use Rattle.logio.specs.Turns.{blockRecords, blockBytes}
+use Rattle.logio.proofs.Room.{records-room}
 use Rattle.replay_cases.proofs.next_block.Statement.{statement}
 use Rattle.replay_cases.proofs.next_block.Tie as tie
 
+slice-aggregate-replay-block : tie.Need-slice-aggregate-replay-block
+slice-aggregate-replay-block c = sym (length-replicate {A = ℕ} blockBytes 0)
+
+slice-aggregate-replay-block-2 : tie.Need-slice-aggregate-replay-block-2
+slice-aggregate-replay-block-2 c = sym (length-replicate {A = ℕ} (blockRecords * answerWidth) 0)
+
 replay-block-requires : tie.Need-replay-block-requires
-replay-block-requires c κs = block-room (search needs) (search needs)
-
-slice-aggregate-agreeing : tie.Need-slice-aggregate-agreeing
-slice-aggregate-agreeing c =
-    let b = c .before .before .before .before .before .before .before .before .before .before .before .before .replay-block in
-    sym (length-take-le (b .result .end) (b .last .1 .1 .1 .1 .1 .0) (omega arith))
-
-slice-aggregate-agreeing-2 : tie.Need-slice-aggregate-agreeing-2
-slice-aggregate-agreeing-2 c =
-    let f = c .before .before .before .fill in
-    sym (length-take-le (f .result .n) (f .last .1 .0) (omega arith))
+replay-block-requires c κs =
+    records-room blockRecords (omega (arith, length-replicate {A = ℕ} blockBytes 0)) (omega (arith, length-replicate {A = ℕ} (blockRecords * answerWidth) 0))
 
 pub next-block-spec : {M : Type 1} → statement M
-next-block-spec = tie.close (tie.spec (search needs) (search needs) replay-block-requires (search needs) (search needs) (search needs) slice-aggregate-agreeing (search needs) slice-aggregate-agreeing-2 (search needs) (search needs) (search needs) (search needs) (search needs) (search needs))
+next-block-spec =
+    tie.close
+    (tie.spec
+    slice-aggregate-replay-block
+    slice-aggregate-replay-block-2
+    replay-block-requires
+    (search needs)
+    (search needs)
+    (search needs)
+    (search needs)
+    (search needs)
+    (search needs)
+    (search needs)
+    (search needs)
+    (search needs)
+    (search needs))

@@ -1,4 +1,5 @@
 -- `replay_cases::run_cases` meets its contract. Assumes nothing.
+use Rattle.replay_cases.specs.StoredCase.{imageSize}
 use borrow.Author.Needs.{needs}
 use mathlib.Core.Path.{_≡_}
 use lib.ListN.{length}
@@ -6,7 +7,7 @@ use Rattle.replay_cases.proofs.run_cases.Statement.{statement}
 use Rattle.replay_cases.proofs.run_cases.Tie as tie
 
 abbrev Inv-loop : tie.InvT-loop
-Inv-loop from file base p₀ turns₀ p turns = length base ≡ 12800
+Inv-loop from file base p₀ turns₀ p turns = length base ≡ imageSize
 
 abbrev μ-loop : tie.MeasureT-loop
 μ-loop from file base p₀ turns₀ p turns = turns

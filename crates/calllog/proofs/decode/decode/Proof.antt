@@ -3,6 +3,7 @@ use Prim.Native.Nat.{_-_, _+_}
 use native.Mathlib.Omega.{arith}
 use mathlib.Core.Path.{sym, _∙_}
 use borrow.Author.Needs.{needs}
+use Rattle.calllog.specs.CallLog.{recordWidth}
 use Rattle.calllog.proofs.Laws.{read-end, read-short, read-whole}
 use Rattle.calllog.proofs.decode.decode.Statement.{statement}
 use Rattle.calllog.proofs.decode.decode.Tie as tie
@@ -16,7 +17,7 @@ returns-2 c = sym (read-short _ _ (omega arith) (omega arith))
 returns-3 : tie.Need-returns-3
 returns-3 c =
     let a = c .before .before .before .before .before .args in
-    c .decode-record .ensures ∙ read-whole (a .log .now) (a .at) (omega arith) (a .at + 136 - a .at) (omega arith)
+    c .decode-record .ensures ∙ read-whole (a .log .now) (a .at) (omega arith) (a .at + recordWidth - a .at) (omega arith)
 
 pub decode-spec : {M : Type 1} → statement M
 decode-spec =

@@ -30,4 +30,5 @@ keeps-row-spec =
     (search needs)
     (search needs)
     (search needs)
+    (search needs)
     returns)

@@ -8,6 +8,7 @@ use native.Mathlib.Numerals.{add-one}
 use lib.Dec.{eqb}
 use Rattle.ranks.specs.Table.{byte}
 use Rattle.ranks.proofs.Table.{byte-slice}
+use Rattle.records.specs.Layout.{bufferPosition, bufferWidth}
 use Rattle.records.specs.Bytes.{decodeBuffer}
 use borrow.Author.Needs.{needs}
 use Rattle.coremsg.proofs.messages.belongs_to.Statement.{statement}
@@ -17,8 +18,8 @@ returns : tie.Need-returns
 unfolding decodeBuffer
 returns c =
     let a = c .before .args in
-    let at = a .b * 128 in
-    ap₂ {C = Bool} eqb (ap (λ (k : ℕ). byte k (a .pool .now)) (sym (add-zero at)) ∙ sym (byte-slice at 128 (a .pool .now) 0 (omega arith))) (add-one (a .slot))
+    let at = a .b * bufferWidth in
+    ap₂ {C = Bool} eqb (ap (λ (k : ℕ). byte k (a .pool .now)) (sym (add-zero at)) ∙ sym (byte-slice at bufferWidth (a .pool .now) bufferPosition (omega arith))) (add-one (a .slot))
 
 pub belongs-to-spec : {M : Type 1} → statement M
 belongs-to-spec =

@@ -7,10 +7,11 @@ use native.Mathlib.Omega.{arith}
 use lib.Dec.{eqb}
 use Rattle.ranks.specs.Table.{byte}
 use Rattle.ranks.proofs.Table.{byte-slice}
+use Rattle.records.specs.Layout.{bufferPosition, bufferWidth}
 use Rattle.records.specs.Split.{shareOfBuffer}
 use Rattle.records.specs.Bytes.{decodeBuffer}
 use borrow.Author.Needs.{needs}
-use Rattle.coremsg.proofs.Searches.{swapped}
+use Rattle.objects.proofs.Searches.{swapped}
 use Rattle.coremsg.proofs.messages.is_free.Statement.{statement}
 use Rattle.coremsg.proofs.messages.is_free.Tie as tie
 
@@ -18,9 +19,9 @@ returns : tie.Need-returns
 unfolding decodeBuffer
 returns c =
     let a = c .before .before .before .args in
-    let at = a .b * 128 in
+    let at = a .b * bufferWidth in
     ap₂ {C = Bool} _&&_
-    (ap (λ (n : ℕ). eqb n 0) (ap (λ (k : ℕ). byte k (a .pool .now)) (sym (add-zero at)) ∙ sym (byte-slice at 128 (a .pool .now) 0 (omega arith))))
+    (ap (λ (n : ℕ). eqb n 0) (ap (λ (k : ℕ). byte k (a .pool .now)) (sym (add-zero at)) ∙ sym (byte-slice at bufferWidth (a .pool .now) bufferPosition (omega arith))))
     (c .owns-buffer .ensures ∙ swapped (a .share) (shareOfBuffer (a .b)))
 
 pub is-free-spec : {M : Type 1} → statement M

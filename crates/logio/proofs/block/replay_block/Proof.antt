@@ -1,44 +1,49 @@
 -- `logio::block::replay_block` meets its contract. Assumes nothing.
 use native.Mathlib.Omega.{arith}
 use Prim.Native.Nat.{ℕ, _*_, _≤_}
-use mathlib.Core.Path.{_≡_, sym, ap}
+use mathlib.Core.Path.{_≡_, sym, ap, _∙_}
 use lib.ListN.{length, take}
 use lib.Seq.{length-take-le}
-use Rattle.manager.specs.Outcomes.{tables}
-use Rattle.runs.specs.Replay.{countOf}
-use Rattle.logio.proofs.Room.{no-more, replayed-all}
+use Rattle.records.specs.Bytes.{tables}
+use Rattle.calllog.specs.CallLog.{answerWidth, recordCount}
+use Rattle.runs.proofs.Replays.{answers-size}
+use Rattle.logio.proofs.Room.{no-more}
 use borrow.Author.Needs.{needs}
 use Rattle.logio.proofs.block.replay_block.Statement.{statement}
 use Rattle.logio.proofs.block.replay_block.Tie as tie
 
--- what was read has no more records than the block, and their answers have room
-room-for : (c : tie.After-fill) → (let s = c .before .before .before .before .before .before .before in (countOf (c .fill .result .n) * 16 ≤ length (s .args .answers .now)))
-room-for c =
-    let s = c .before .before .before .before .before .before .before in
-    let fewer : countOf (c .fill .result .n) ≤ countOf (length (s .args .log .now)) = no-more (c .fill .ensures .1) in
-    omega (arith, s .pre)
+-- the function's entry, from where the block is read
+abbrev entry : tie.After-fill → tie.Start
+entry f = f .before .before .before .before .before .before .before
 
-mul-end : tie.Need-mul-end
-mul-end c = omega (arith, room-for (c .before .before .before), c .record-count .ensures)
+-- where the block is read, from where its replay has its arguments
+abbrev reads : tie.After-replay-all-arg4 → tie.After-fill
+reads a = a .before .before .before .before .before .before
 
-slice-aggregate-replay : tie.Need-slice-aggregate-replay
-slice-aggregate-replay c =
-    let f = c .before .before .before .before .before .before .before .fill in
-    sym (length-take-le (f .result .n) (f .last .1 .0) (omega arith))
+-- the part of the block that was read
+read-size : (f : tie.After-fill) → length (take (f .fill .result .n) (f .fill .last .1 .0)) ≡ f .fill .result .n
+read-size f = length-take-le (f .fill .result .n) (f .fill .last .1 .0) (omega (arith, f .fill .ensures .1, f .fill .kept))
+
+-- it has no more records than the block, and their answers have room
+room-for : (f : tie.After-fill) → recordCount (length (take (f .fill .result .n) (f .fill .last .1 .0))) * answerWidth ≤ length (entry f .args .answers .now)
+room-for f =
+    let fewer : recordCount (f .fill .result .n) ≤ recordCount (length (entry f .args .log .now)) = no-more (f .fill .ensures .1) in
+    rw (read-size f) (omega (arith, entry f .pre))
+
+slice-aggregate-replay-all : tie.Need-slice-aggregate-replay-all
+slice-aggregate-replay-all c = sym (read-size (reads c))
+
+replay-all-requires : tie.Need-replay-all-requires
+replay-all-requires c κs = room-for (reads (c .before))
 
 returns : tie.Need-returns
 returns c =
     let r = c .before .before .before .before .before .before .before .before in
-    let k = r .before .before .before .before .before .before in
-    let f = k .before .before .before in
-    let s = f .before .before .before .before .before .before .before .args in
-    let n = f .fill .result .n in
-    let log = f .fill .last .1 .0 in
-    let size : length (take n log) ≡ n = length-take-le n log (omega arith) in
-    let room = room-for f in (
-      (f .fill .ensures .1, (ap (λ (m : ℕ). m * 16) (k .record-count .ensures), omega (arith, k .record-count .ensures, room))),
-      (f .fill .ensures .0, replayed-all (tables (s .queues .now) (s .pool .now) (s .tasks .now)) (take n log) (s .answers .now) (r .replay .ensures) (rw size room)),
-    )
+    let f = reads (r .before .before) in
+    let s = entry f .args in
+    let all = answers-size (tables (s .queues .now) (s .pool .now) (s .tasks .now)) (take (f .fill .result .n) (f .fill .last .1 .0)) in
+    let ends = r .replay-all .ensures .0 ∙ all ∙ ap (λ (n : ℕ). recordCount n * answerWidth) (read-size f) in
+    record { inside = f .fill .ensures .1; ends = ends; within = omega (arith, r .replay-all .ensures .0, all, room-for f); fills = f .fill .ensures .0; replays = r .replay-all .ensures .1 }
 
 pub replay-block-spec : {M : Type 1} → statement M
-replay-block-spec = tie.close (tie.spec (search needs) (search needs) mul-end (search needs) slice-aggregate-replay (search needs) (search needs) (search needs) (search needs) (search needs) (search needs) returns)
+replay-block-spec = tie.close (tie.spec (search needs) (search needs) slice-aggregate-replay-all replay-all-requires (search needs) (search needs) (search needs) (search needs) (search needs) returns)

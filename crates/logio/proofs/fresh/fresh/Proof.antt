@@ -1,9 +1,8 @@
 -- `logio::fresh::fresh` meets its contract. Assumes nothing.
+use Rattle.records.specs.Layout.{queuesSize, poolSize, tasksSize, taskCount}
 use borrow.Author.Needs.{needs}
 use mathlib.Core.Bool.{true, _&&_}
-use mathlib.Core.List.{List}
 use mathlib.Core.Path.{_≡_, refl, ap, _∙_}
-use Prim.Native.Nat.{ℕ}
 use lib.ListN.{replicate}
 use Rattle.ranks.specs.Lists.{allTrue, mapWithIndex, mapFromIndex, within, numbersFrom}
 use Rattle.records.specs.Bytes.{Tables, rightLengths}
@@ -13,14 +12,14 @@ use Rattle.logio.proofs.fresh.fresh.Statement.{statement}
 use Rattle.logio.proofs.fresh.fresh.Tie as tie
 
 abbrev zeros : Tables
-zeros = record { queues = replicate 256 0; pool = replicate 8192 0; tasks = replicate 4352 0 }
+zeros = record { queues = replicate queuesSize 0; pool = replicate poolSize 0; tasks = replicate tasksSize 0 }
 
 -- the lengths and the priorities are right
-right : (rightLengths zeros && goodPriorities (numbersFrom 1 32)) ≡ true
+right : (rightLengths zeros && goodPriorities (numbersFrom 1 taskCount)) ≡ true
 unfolding rightLengths goodPriorities numbersFrom allTrue mapWithIndex mapFromIndex within
 right = refl
 
-made : madeFresh zeros (numbersFrom 1 32) ≡ record { done = true; after = freshTables (numbersFrom 1 32) }
+made : madeFresh zeros (numbersFrom 1 taskCount) ≡ record { done = true; after = freshTables (numbersFrom 1 taskCount) }
 unfolding madeFresh
 made = rw right refl
 

@@ -1,4 +1,5 @@
 -- `logio::fresh::priorities` meets its contract. Assumes nothing.
+use Rattle.records.specs.Layout.{taskCount}
 use borrow.Author.Needs.{needs}
 use mathlib.Core.Path.{_≡_, refl, ap, _∙_}
 use mathlib.Core.List.{List}
@@ -12,19 +13,19 @@ use Rattle.logio.proofs.fresh.priorities.Tie as tie
 
 -- the priorities of the first k tasks, and zeros
 unfoldable prioritized : ℕ → List ℕ
-prioritized zero = replicate 32 0
+prioritized zero = replicate taskCount 0
 prioritized (suc k) = set (prioritized k) k (suc k)
 
 -- of all tasks
-all-prioritized : prioritized 32 ≡ numbersFrom 1 32
+all-prioritized : prioritized taskCount ≡ numbersFrom 1 taskCount
 unfolding prioritized numbersFrom
 all-prioritized = refl
 
 abbrev Inv-loop : tie.InvT-loop
-Inv-loop p₀ t₀ p t = (t ≤ 32) × ((p ≡ prioritized t) × (length p ≡ 32))
+Inv-loop p₀ t₀ p t = (t ≤ taskCount) × ((p ≡ prioritized t) × (length p ≡ taskCount))
 
 abbrev μ-loop : tie.MeasureT-loop
-μ-loop p₀ t₀ p t = 32 - t
+μ-loop p₀ t₀ p t = taskCount - t
 
 loop-holds : tie.Need-loop-holds Inv-loop μ-loop
 unfolding prioritized
@@ -39,7 +40,7 @@ loop-again c =
 returns : tie.Need-returns Inv-loop μ-loop
 returns c =
     let v = c .before .loop in
-    let e : v .t ≡ 32 = omega arith in
+    let e : v .t ≡ taskCount = omega arith in
     v .inv .1 .0 ∙ ap prioritized e ∙ all-prioritized
 
 pub priorities-spec : {M : Type 1} → statement M

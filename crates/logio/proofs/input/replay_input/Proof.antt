@@ -3,10 +3,9 @@ use borrow.Author.Needs.{needs}
 use borrow.Author.Tests.{not-true, not-false}
 use native.Mathlib.Omega.{arith}
 use mathlib.Core.Path.{_≡_, refl, sym, _∙_}
-use Prim.Native.Nat.{ℕ, suc, _-_}
+use Prim.Native.Nat.{suc, _-_}
 use lib.ListN.{length}
-use Rattle.records.specs.Bytes.{Tables}
-use Rattle.manager.specs.Outcomes.{tables}
+use Rattle.records.specs.Bytes.{Tables, tables}
 use Rattle.logio.specs.declared.input.Ending.{Ending}
 use Rattle.logio.specs.Turns.{Turns, last, more, spent}
 use Rattle.logio.proofs.Blocks.{in-turns}

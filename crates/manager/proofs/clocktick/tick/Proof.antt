@@ -2,8 +2,9 @@
 use Prim.Native.Nat.{_-_}
 use native.Mathlib.Omega.{arith}
 use mathlib.Core.Path.{sym, subst, _∙_}
+use Rattle.records.specs.Layout.{taskCount}
+use Rattle.records.specs.Bytes.{tables}
 use Rattle.records.proofs.EncodeDecode.{lengths}
-use Rattle.manager.specs.Outcomes.{tables}
 use Rattle.manager.proofs.Ticks.{TickedBelow, none-ticked, one-more-ticked, names-slot, tick-done}
 use borrow.Author.Needs.{needs}
 use Rattle.manager.proofs.clocktick.tick.Statement.{statement}
@@ -13,7 +14,7 @@ abbrev Inv-loop : tie.InvT-loop
 Inv-loop queues₀ pool tasks₀ woken t₀ queues tasks t = TickedBelow queues₀ pool tasks₀ queues tasks t
 
 abbrev μ-loop : tie.MeasureT-loop
-μ-loop queues₀ pool tasks₀ woken t₀ queues tasks t = 32 - t
+μ-loop queues₀ pool tasks₀ woken t₀ queues tasks t = taskCount - t
 
 -- Places of the code, each from one that comes after it.
 abbrev entry : tie.After-expired-mask Inv-loop μ-loop → tie.Start Inv-loop μ-loop
@@ -37,7 +38,12 @@ tick-task-requires c κs =
     let a = s .args in
     let sizes = lengths (tables (a .queues .now) (a .pool .now) (a .tasks .now)) (s .pre .0) in
     let below = c .before .before .loop-test .taken in
-    (below, (v .inv .queuesSize ∙ sizes .0, (v .inv .tasksSize ∙ sizes .2, names-slot (tables (v .queues) (a .pool .now) (v .tasks)) (v .inv .facts) (v .t) below)))
+    record {
+      taskBelow = below;
+      queuesLength = v .inv .queuesSize ∙ sizes .0;
+      tasksLength = v .inv .tasksSize ∙ sizes .2;
+      namesSlot = names-slot (tables (v .queues) (a .pool .now) (v .tasks)) (v .inv .facts) (v .t) below;
+    }
 
 loop-again : tie.Need-loop-again Inv-loop μ-loop
 loop-again c =

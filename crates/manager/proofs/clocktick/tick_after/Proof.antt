@@ -1,8 +1,9 @@
 -- `manager::clocktick::tick_after` meets its contract. Assumes nothing.
 use mathlib.Core.Path.{_∙_}
+use Rattle.records.specs.Bytes.{tables}
 use Rattle.records.proofs.Statuses.{tells}
-use Rattle.manager.specs.Outcomes.{tables}
-use Rattle.manager.proofs.Calls.{table-passed, tick-refused, tick-accepted}
+use Rattle.common_refusals.proofs.FirstTests.{table-passed}
+use Rattle.manager.proofs.Calls.{tick-refused, tick-accepted}
 use borrow.Author.Needs.{needs}
 use Rattle.manager.proofs.clocktick.tick_after.Statement.{statement}
 use Rattle.manager.proofs.clocktick.tick_after.Tie as tie

@@ -2,11 +2,11 @@
 use Prim.Native.Nat.{ℕ}
 use mathlib.Core.Path.{ap, _∙_}
 use Rattle.records.specs.Layout.{idOf}
-use Rattle.records.specs.Bytes.{Tables}
-use Rattle.manager.specs.Outcomes.{tables, outcomeOf}
+use Rattle.records.specs.Bytes.{Tables, tables}
+use Rattle.manager.specs.Outcomes.{outcomeOf}
 use Rattle.manager.specs.declared.answer.Answer.the-variants.{Successful}
 use Rattle.manager.proofs.Idents.{no-name, no-share, not-found, found-one}
-use Rattle.manager.proofs.Outcomes.{caller-ready, table-lengths, unchanged}
+use Rattle.manager.proofs.Outcomes.{call-facts, unchanged}
 use borrow.Author.Needs.{needs}
 use Rattle.manager.proofs.msgqident.ident.Statement.{statement}
 use Rattle.manager.proofs.msgqident.ident.Tie as tie
@@ -29,7 +29,7 @@ named-requires : tie.Need-named-requires
 named-requires c κs =
     let s = c .before .before .before .before .before in
     let a = s .args in
-    (table-lengths _ _ _ (a .caller) (s .pre) .0, caller-ready _ _ _ (a .caller) (s .pre) .below)
+    (call-facts (s .pre) .queuesLength, call-facts (s .pre) .callerBelow)
 
 returns-3 : tie.Need-returns-3
 returns-3 c =
@@ -40,7 +40,7 @@ returns-3 c =
 read-queue-requires : tie.Need-read-queue-requires
 read-queue-requires c κs =
     let s = c .before .before .before .before .before .before .before in
-    (c .if3 .left, table-lengths _ _ _ (s .args .caller) (s .pre) .0)
+    (c .if3 .left, call-facts (s .pre) .queuesLength)
 
 returns-4 : tie.Need-returns-4
 unfolding idOf
@@ -52,13 +52,14 @@ returns-4 c =
     ap (λ (k : ℕ). outcomeOf (Successful k 0) t) (c .id-of .ensures)
     ∙ found-one t (a .caller) (a .name) (a .share) (c .before .before .before .before .before .if1 .left) (c .before .before .before .before .if2 .left) (n .result) (n .ensures) (c .before .before .if3 .left)
     (c .before .read-queue .result) (c .before .read-queue .ensures)
-    (unchanged _ _ _ (a .caller) (s .pre) (λ i. c .before .before .before .before .before .before .before .before .shared-slice-known .given i .fits) (λ i. c .before .before .before .before .before .before .before .shared-slice-known2 .given i .fits) (λ i. c .before .before .before .before .before .before .shared-slice-known3 .given i .fits))
+    (unchanged (s .pre) (λ i. c .before .before .before .before .before .before .before .before .shared-slice-known .given i .fits) (λ i. c .before .before .before .before .before .before .before .shared-slice-known2 .given i .fits) (λ i. c .before .before .before .before .before .before .shared-slice-known3 .given i .fits))
 
 pub ident-spec : {M : Type 1} → statement M
 ident-spec =
     tie.close
     (tie.spec
     returns
+    (search needs)
     returns-2
     named-requires
     returns-3

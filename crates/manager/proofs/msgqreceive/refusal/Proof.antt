@@ -1,10 +1,20 @@
 -- `manager::msgqreceive::refusal` meets its contract. Assumes nothing.
-use mathlib.Core.Path.{sym, _∙_}
+use mathlib.Core.Path.{_≡_, sym, _∙_}
+use mathlib.Core.Bool.{true, false}
+use lib.Dec.{ltb}
 use borrow.Author.Tests.{not-true, not-false, lt-ltb, le-ltb}
 use Rattle.specification.specs.Answer.{firstStatus}
+use Rattle.specification.specs.Lookup.{usableQueue}
 use borrow.Author.Needs.{needs}
 use Rattle.manager.proofs.msgqreceive.refusal.Statement.{statement}
 use Rattle.manager.proofs.msgqreceive.refusal.Tie as tie
+
+-- What each test that was passed says.
+is-usable : (p : tie.Else1) → let a = p .before .before .args in usableQueue (a .q) (a .caller) (a .id) ≡ true
+is-usable p = sym (p .before .usable .ensures) ∙ not-false (p .before .usable .result) (p .if1 .left)
+
+option-known : (p : tie.Else2) → ltb 1 (p .before .before .before .args .option) ≡ false
+option-known p = le-ltb 1 _ (p .if2 .left)
 
 returns : tie.Need-returns
 unfolding firstStatus
@@ -12,15 +22,15 @@ returns c = rw (sym (c .before .usable .ensures) ∙ not-true (c .before .usable
 
 returns-2 : tie.Need-returns-2
 unfolding firstStatus
-returns-2 c = rw (sym (c .before .before .usable .ensures) ∙ not-false (c .before .before .usable .result) (c .before .if1 .left), lt-ltb 1 _ (c .if2 .taken))
+returns-2 c = rw (is-usable (c .before), lt-ltb 1 _ (c .if2 .taken))
 
 returns-3 : tie.Need-returns-3
 unfolding firstStatus
-returns-3 c = rw (sym (c .before .before .before .usable .ensures) ∙ not-false (c .before .before .before .usable .result) (c .before .before .if1 .left), le-ltb 1 _ (c .before .if2 .left), c .if3 .taken)
+returns-3 c = let p = c .before in rw (is-usable (p .before), option-known p, c .if3 .taken)
 
 returns-4 : tie.Need-returns-4
 unfolding firstStatus
-returns-4 c = rw (sym (c .before .before .before .usable .ensures) ∙ not-false (c .before .before .before .usable .result) (c .before .before .if1 .left), le-ltb 1 _ (c .before .if2 .left), c .if3 .left)
+returns-4 c = let p = c .before in rw (is-usable (p .before), option-known p, c .if3 .left)
 
 pub refusal-spec : {M : Type 1} → statement M
 refusal-spec = tie.close (tie.spec (search needs) returns returns-2 returns-3 returns-4)

@@ -1,11 +1,9 @@
 -- `message_manager::logs::message_manager_call` meets its contract. Assumes nothing.
 use Prim.Native.Nat.{ℕ}
 use mathlib.Core.Path.{ap, ap₂, _∙_}
-use lib.ListN.{drop}
-use Rattle.records.specs.Bytes.{Tables}
+use Rattle.records.specs.Bytes.{Tables, tables}
 use Rattle.specification.specs.Answer.{Outcome}
-use Rattle.calllog.specs.CallLog.{readRecord}
-use Rattle.manager.specs.Outcomes.{tables}
+use Rattle.calllog.specs.CallLog.{readRecord, messageOf}
 use Rattle.runs.specs.Replay.{outcomeFor}
 use Rattle.message_manager.specs.Interface.{answeredInto}
 use Rattle.message_manager.proofs.Laws.{another-length, answered}
@@ -32,7 +30,7 @@ returns-2 c =
     let e = m .before .before .before .before .before in
     let a = entry e .args in
     let t = tables (a .queues .now) (a .pool .now) (a .tasks .now) in
-    let o = outcomeFor t (readRecord (a .bytes .now)) (drop 16 (a .bytes .now)) in
+    let o = outcomeFor t (readRecord (a .bytes .now)) (messageOf (a .bytes .now)) in
     let done = s .answer-searching .ensures ∙ ap₂ {C = Outcome Tables} (outcomeFor t) (m .before .read-record .ensures) (m .message-field .ensures) in
     answered (a .answer .now) t _ (e .if1 .left) done (c .before .before .write-answer .ensures)
     ∙ ap (λ (n : ℕ). answeredInto (a .answer .now) t n o) (f .first-byte .ensures)

@@ -2,6 +2,7 @@
 use mathlib.Core.Path.{refl}
 use lib.ListN.{replicate}
 use borrow.Author.Needs.{needs}
+use Rattle.records.specs.Layout.{bufferCount, bufferWidth}
 use Rattle.records.specs.Records.{freeBuffer}
 use Rattle.records.specs.Bytes.{decodeBuffer}
 use Rattle.records.proofs.Writing
@@ -13,7 +14,7 @@ returns c =
     let s = c .before .before .before .before .before .before in
     let a = s .args in
     let k = c .before .before .copy-into in
-    Writing.table-written decodeBuffer 64 128 (a .pool .now) (k .last .0) (replicate 128 0) (a .b) freeBuffer (s .pre .1) (s .pre .0) refl Writing.zeros-free (k .ensures)
+    Writing.table-written decodeBuffer bufferCount bufferWidth (a .pool .now) (k .last .0) (replicate bufferWidth 0) (a .b) freeBuffer (s .pre .1) (s .pre .0) refl Writing.zeros-free (k .ensures)
 
 pub clear-buffer-spec : {M : Type 1} → statement M
 clear-buffer-spec =

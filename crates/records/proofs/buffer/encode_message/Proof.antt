@@ -20,4 +20,5 @@ encode-message-spec =
     (search needs)
     (search needs)
     (search needs)
+    (search needs)
     returns)

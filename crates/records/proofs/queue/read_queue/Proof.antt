@@ -2,6 +2,7 @@
 use mathlib.Core.Path.{ap, _∙_}
 use Prim.Native.Nat.{_*_}
 use borrow.Author.Needs.{needs}
+use Rattle.records.specs.Layout.{queueWidth}
 use Rattle.records.specs.Bytes.{decodeQueue}
 use Rattle.records.proofs.Writing
 use Rattle.records.proofs.queue.read_queue.Statement.{statement}
@@ -10,7 +11,7 @@ use Rattle.records.proofs.queue.read_queue.Tie as tie
 returns : tie.Need-returns
 returns c =
     let a = c .before .before .before .args in
-    c .decode-queue .ensures ∙ ap decodeQueue (Writing.slice-lent (a .queues .now) (a .slot * 16) 16)
+    c .decode-queue .ensures ∙ ap decodeQueue (Writing.slice-lent (a .queues .now) (a .slot * queueWidth) queueWidth)
 
 pub read-queue-spec : {M : Type 1} → statement M
 read-queue-spec =

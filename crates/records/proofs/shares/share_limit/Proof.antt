@@ -1,8 +1,5 @@
 -- `records::shares::share_limit` meets its contract. Assumes nothing.
-use Prim.Native.Nat.{ℕ, _*_, _/_}
-use mathlib.Core.Path.{refl, ap}
-use lib.Dec.{eqb}
-use borrow.Author.Needs.{needs}
+use mathlib.Core.Path.{refl}
 use Rattle.ranks.specs.Lists
 use Rattle.records.specs.Split
 use Rattle.records.proofs.Tabled.{agree}
@@ -10,8 +7,8 @@ use Rattle.records.proofs.shares.share_limit.Statement.{statement}
 use Rattle.records.proofs.shares.share_limit.Tie as tie
 
 returns : tie.Need-returns
-unfolding Lists.numbersFrom Split.split Split.shareLimit
-returns c = agree (λ i. 16) Split.shareLimit 4 refl (c .args .share) (c .pre)
+unfolding Lists.numbersFrom Split.shareLimit
+returns c = agree (λ i. 16) Split.shareLimit Split.shareCount refl (c .args .share) (c .pre)
 
 pub share-limit-spec : {M : Type 1} → statement M
 share-limit-spec = tie.close (tie.spec returns)

@@ -1,6 +1,7 @@
 -- `replay_cases::case::queues_in` meets its contract. Assumes nothing.
 use native.Mathlib.Omega.{arith}
 use mathlib.Core.Path.{_∙_}
+use Rattle.records.specs.Layout.{queuesSize}
 use borrow.Author.Needs.{needs}
 use Rattle.ranks.specs.Table.{slice}
 use Rattle.replay_cases.specs.StoredCase.{tablesIn}
@@ -12,7 +13,7 @@ returns : tie.Need-returns
 unfolding tablesIn slice
 returns c =
     let image = c .before .before .before .before .before .args .image .now in
-    c .before .copy-into .ensures ∙ copied 256 _ (part-length 0 256 image (omega arith))
+    c .before .copy-into .ensures ∙ copied queuesSize _ (part-length 0 queuesSize image (omega arith))
 
 pub queues-in-spec : {M : Type 1} → statement M
 queues-in-spec = tie.close (tie.spec (search needs) (search needs) (search needs) (search needs) (search needs) returns)

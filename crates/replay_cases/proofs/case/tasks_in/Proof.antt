@@ -1,9 +1,10 @@
 -- `replay_cases::case::tasks_in` meets its contract. Assumes nothing.
 use native.Mathlib.Omega.{arith}
 use mathlib.Core.Path.{_∙_}
+use Rattle.records.specs.Layout.{tasksSize}
 use borrow.Author.Needs.{needs}
 use Rattle.ranks.specs.Table.{slice}
-use Rattle.replay_cases.specs.StoredCase.{tablesIn}
+use Rattle.replay_cases.specs.StoredCase.{tablesIn, tasksPlace}
 use Rattle.replay_cases.proofs.Laws.{copied, part-length}
 use Rattle.replay_cases.proofs.case.tasks_in.Statement.{statement}
 use Rattle.replay_cases.proofs.case.tasks_in.Tie as tie
@@ -12,7 +13,7 @@ returns : tie.Need-returns
 unfolding tablesIn slice
 returns c =
     let image = c .before .before .before .before .before .args .image .now in
-    c .before .copy-into .ensures ∙ copied 4352 _ (part-length 8448 4352 image (omega arith))
+    c .before .copy-into .ensures ∙ copied tasksSize _ (part-length tasksPlace tasksSize image (omega arith))
 
 pub tasks-in-spec : {M : Type 1} → statement M
 tasks-in-spec = tie.close (tie.spec (search needs) (search needs) (search needs) (search needs) (search needs) returns)

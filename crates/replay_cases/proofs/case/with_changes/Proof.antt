@@ -4,7 +4,7 @@ use Prim.Native.Nat.{ℕ}
 use mathlib.Core.List.{List}
 use mathlib.Core.Path.{ap, _∙_}
 use borrow.Author.Needs.{needs}
-use Rattle.replay_cases.specs.StoredCase.{changed}
+use Rattle.replay_cases.specs.StoredCase.{changed, imageSize}
 use Rattle.replay_cases.proofs.Laws.{copied}
 use Rattle.replay_cases.proofs.case.with_changes.Statement.{statement}
 use Rattle.replay_cases.proofs.case.with_changes.Tie as tie
@@ -14,7 +14,7 @@ returns c =
     let a = c .before .before .before .before .before .before .before .before .args in
     let copy = c .before .before .before .before .copy-into in
     c .before .change .ensures
-    ∙ ap (λ (l : List ℕ). changed l (a .changes .now)) (copy .ensures ∙ copied 12800 (a .image .now) (omega arith))
+    ∙ ap (λ (l : List ℕ). changed l (a .changes .now)) (copy .ensures ∙ copied imageSize (a .image .now) (omega arith))
 
 pub with-changes-spec : {M : Type 1} → statement M
 with-changes-spec = tie.close (tie.spec (search needs) (search needs) (search needs) (search needs) returns)

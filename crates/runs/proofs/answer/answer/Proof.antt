@@ -1,8 +1,9 @@
 -- `runs::answer::answer` meets its contract. Assumes nothing.
 use mathlib.Core.Path.{sym, ap, _∙_}
+use Rattle.records.specs.Bytes.{tables}
 use Rattle.calllog.specs.declared.call.LogResult.{LogResult}
 use Rattle.runs.specs.Replay.{outcomeFor}
-use Rattle.manager.specs.Outcomes.{answerOf, tables}
+use Rattle.manager.specs.Outcomes.{answerOf}
 use borrow.Author.Needs.{needs}
 use Rattle.runs.proofs.answer.answer.Statement.{statement}
 use Rattle.runs.proofs.answer.answer.Tie as tie

@@ -13,17 +13,17 @@ abbrev entry-2 : tie.After-tick-after-arg2 → tie.Start
 entry-2 p = p .before .before .before .before .before .before .before .before
 
 abbrev at-logged : tie.After-answer-directive → tie.After-logged
-at-logged p = p .before .before .before .before .before .before
+at-logged p = p .before .before .before .before .before
 
 answer-directive-requires : tie.Need-answer-directive-requires
-answer-directive-requires c κs = entry (c .before .before .before .before .before) .pre
+answer-directive-requires c κs = entry (c .before .before .before .before) .pre
 
 tick-after-requires : tie.Need-tick-after-requires
 tick-after-requires c κs = entry-2 (c .before) .pre
 
 returns : tie.Need-returns
 unfolding callOf
-returns c = c .before .before .before .before .before .before .answer-directive .ensures ∙ simp (c .before .before .before .before .before .before .before .word-of .ensures, at-logged (c .before .before .before .before .before .before) .logged .given .1)
+returns c = c .before .before .before .before .before .before .answer-directive .ensures ∙ simp (at-logged (c .before .before .before .before .before .before) .logged .given .1)
 
 returns-2 : tie.Need-returns-2
 unfolding callOf

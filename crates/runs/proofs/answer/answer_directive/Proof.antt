@@ -1,8 +1,8 @@
 -- `runs::answer::answer_directive` meets its contract. Assumes nothing.
 use mathlib.Core.Path.{_∙_}
+use Rattle.records.specs.Bytes.{tables}
 use Rattle.records.proofs.Statuses.{tells}
 use Rattle.runs.specs.Replay.{directiveOf}
-use Rattle.manager.specs.Outcomes.{tables}
 use Rattle.manager.proofs.Calls.{refused-call, callable, accepted-call}
 use borrow.Author.Needs.{needs}
 use Rattle.runs.proofs.answer.answer_directive.Statement.{statement}

@@ -4,12 +4,12 @@ use mathlib.Core.Bool.{false, false≢true}
 use mathlib.Core.List.{List}
 use Prim.Native.Nat.{ℕ}
 use borrow.Author.Tests.{not-true}
-use Rattle.records.specs.Bytes.{Tables}
+use Rattle.records.specs.Bytes.{Tables, tables}
 use Rattle.records.specs.Status.{BAD-SHAPE}
 use Rattle.specification.specs.Answer.{refuse}
 use Rattle.calllog.specs.declared.call.LogResult.{LogResult}
 use Rattle.calllog.specs.declared.call.LogResult.the-variants.{WellFormed, Malformed, End}
-use Rattle.manager.specs.Outcomes.{answerOf, tables}
+use Rattle.manager.specs.Outcomes.{answerOf}
 use Rattle.runs.specs.Replay.{isCall, outcomeFor}
 use borrow.Author.Needs.{needs}
 use Rattle.runs.proofs.answer.answer_searching.Statement.{statement}

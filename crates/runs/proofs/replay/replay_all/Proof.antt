@@ -5,10 +5,12 @@ use mathlib.Core.Path.{_≡_, refl, sym, ap, _∙_}
 use mathlib.Core.List.{List}
 use lib.ListN.{length}
 use Rattle.ranks.specs.Table.{slice}
+use Rattle.records.specs.Bytes.{tables}
 use Rattle.records.specs.declared.status.Verdict.{Verdict}
 use Rattle.specification.specs.Answer.{firstStatus}
-use Rattle.manager.specs.Outcomes.{tables, tableRefusals, Tested}
+use Rattle.common_refusals.specs.Tested.{tableRefusals, Tested}
 use Rattle.manager.proofs.Outcomes.{Slice}
+use Rattle.calllog.specs.CallLog.{recordWidth, answerWidth}
 use Rattle.runs.specs.Replay.{ReplayedAt, replayedAt}
 use Rattle.runs.proofs.Replays.{ReplayedTo, none-replayed, room-for-one, one-more-replayed, all-replayed, next-after}
 use Rattle.runs.proofs.TableStatus.{sliced, verdict-stays}
@@ -70,7 +72,7 @@ returns c =
 inside : (b : tie.In-loop Inv-loop μ-loop) → b .before .loop .at < length (entry (known (b .before)) .args .log .now)
 inside b = omega (arith, b .loop-test .taken)
 
-room : (b : tie.In-loop Inv-loop μ-loop) → b .before .loop .to + 16 ≤ length (b .before .loop .answers)
+room : (b : tie.In-loop Inv-loop μ-loop) → b .before .loop .to + answerWidth ≤ length (b .before .loop .answers)
 room b =
     let v = b .before .loop in
     let a = entry (known (b .before)) .args in
@@ -101,8 +103,8 @@ loop-again c =
     let v = b .before .loop in
     let t₀ = tables (a .queues .now) (a .pool .now) (a .tasks .now) in
     let t = tables (v .queues) (v .pool) (v .tasks) in
-    let part = slice (v .at) 136 (a .log .now) in
-    let bytes : Slice part = sliced (v .at) 136 (a .log .now) (λ j. k .before .shared-slice-known .given j .fits) in
+    let part = slice (v .at) recordWidth (a .log .now) in
+    let bytes : Slice part = sliced (v .at) recordWidth (a .log .now) (λ j. k .before .shared-slice-known .given j .fits) in
     record {
       tested =
           verdict-stays t (v .inv .queue-bytes) (v .inv .pool-bytes) (v .inv .task-bytes) (b .before .before .table-refusal .result) (v .inv .tested) part bytes

@@ -4,9 +4,9 @@ use native.Mathlib.Omega.{arith}
 use mathlib.Core.Path.{_≡_, ap, _∙_}
 use lib.ListN.{length}
 use Rattle.ranks.specs.Table.{spliced}
+use Rattle.records.specs.Bytes.{tables}
 use Rattle.calllog.specs.CallLog.{placeAfter}
 use Rattle.calllog.specs.declared.reader.Reading.{Reading}
-use Rattle.manager.specs.Outcomes.{tables}
 use Rattle.runs.specs.Replay.{Replayed, ReplayedAt, replayedAt}
 use Rattle.runs.proofs.Replays.{next-after, next-within, part-size, record-replayed}
 use borrow.Author.Needs.{needs}

@@ -1,9 +1,8 @@
 -- `runs::replay::replay_record` meets its contract. Assumes nothing.
 use mathlib.Core.Path.{ap, _∙_}
 use Rattle.ranks.specs.Table.{byte}
-use Rattle.records.specs.Bytes.{Tables}
+use Rattle.records.specs.Bytes.{Tables, tables}
 use Rattle.specification.specs.Answer.{Outcome}
-use Rattle.manager.specs.Outcomes.{tables}
 use Rattle.runs.specs.Replay.{outcomeFor, answerRecord, Replayed, replayFound}
 use borrow.Author.Needs.{needs}
 use Rattle.runs.proofs.replay.replay_record.Statement.{statement}

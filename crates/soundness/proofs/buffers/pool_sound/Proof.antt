@@ -2,7 +2,7 @@
 use mathlib.Core.Bool.{true}
 use native.Mathlib.Omega.{arith}
 use Rattle.records.specs.Records.{freeBuffer}
-use Rattle.records.specs.Bytes.{decodeQueues, decodePool}
+use Rattle.records.specs.Bytes.{decodePool}
 use Rattle.specification.specs.Sound.{soundBuffer}
 use Rattle.soundness.specs.Parts.{onlyQueues, poolPositions}
 use Rattle.soundness.proofs.RecordTests.{Table, pool-shape, pool-table, table-fails, rules-hold, ranks-below, ranks-decide, messages-among}
@@ -10,7 +10,7 @@ use borrow.Author.Needs.{needs}
 use Rattle.soundness.proofs.buffers.pool_sound.Statement.{statement}
 use Rattle.soundness.proofs.buffers.pool_sound.Tie as tie
 
-table : (s : tie.Start) → Table (soundBuffer (onlyQueues (s .args .queues .now))) (λ m. m .position) (decodePool (s .args .pool .now)) freeBuffer (decodeQueues (s .args .queues .now)) (poolPositions (s .args .pool .now))
+table : (s : tie.Start) → Table (soundBuffer (onlyQueues (s .args .queues .now))) (λ m. m .position) (decodePool (s .args .pool .now)) freeBuffer (onlyQueues (s .args .queues .now)) (poolPositions (s .args .pool .now))
 table s = pool-table (s .args .queues .now) (s .args .pool .now) (s .pre .1)
 
 returns : tie.Need-returns

@@ -6,8 +6,7 @@ use mathlib.Core.Bool.{true}
 use mathlib.Core.Logic.{⊎-elim}
 use lib.ListN.{getD}
 use Rattle.ranks.proofs.Tests.{lt-or-ge}
-use Rattle.soundness.proofs.Ranks.{length-positions}
-use Rattle.soundness.proofs.RecordTests.{tasks-shape}
+use Rattle.records.specs.Layout.{taskCount}
 use Rattle.soundness.proofs.Orders.{ranks-fit, one-at-rank, rising, falling}
 use borrow.Author.Needs.{needs}
 use Rattle.soundness.proofs.priorities.by_priority.Statement.{statement}
@@ -21,9 +20,8 @@ abbrev μ-search : tie.MeasureT-search
 μ-search tasks slot n by-rank good₀ rank₀ good rank =
     n - rank
 
--- at most 32 tasks wait
-fit : (c : tie.Start Inv-search μ-search) → c .args .n ≤ 32
-fit c = omega (arith, ranks-fit (c .args .slot) (c .args .n) _ (c .pre .1 .1), length-positions 136 1 32 (c .args .tasks .now) (tasks-shape (c .args .tasks .now) (c .pre .0)))
+fit : (c : tie.Start Inv-search μ-search) → c .args .n ≤ taskCount
+fit c = ranks-fit (c .args .tasks .now) (c .args .slot) (c .args .n) (c .pre .1 .1)
 
 priorities-by-rank-requires : tie.Need-priorities-by-rank-requires Inv-search μ-search
 priorities-by-rank-requires c κs =

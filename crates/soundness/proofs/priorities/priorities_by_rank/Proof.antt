@@ -5,6 +5,7 @@ use native.Mathlib.Omega.{arith}
 use mathlib.Core.Path.{_≡_, sym, ap, ap₂, subst, _∙_}
 use mathlib.Core.Logic.{⊎-elim}
 use lib.ListN.{length, getD, set, length-set, length-replicate}
+use Rattle.records.specs.Layout.{byteValues, taskCount, taskWidth}
 use Rattle.records.specs.declared.task.TaskHead.{TaskHead}
 use Rattle.records.specs.Records.{Task, freshTask}
 use Rattle.records.specs.Bytes.{decodeTask, decodeTasks}
@@ -17,21 +18,21 @@ use Rattle.soundness.proofs.priorities.priorities_by_rank.Tie as tie
 
 abbrev Inv-loop : tie.InvT-loop
 Inv-loop tasks slot by-rank₀ t₀ by-rank t =
-    (t ≤ 32) × ((length by-rank ≡ 256) × PrioritiesAtRanks slot t (decodeTasks tasks) by-rank)
+    (t ≤ taskCount) × ((length by-rank ≡ byteValues) × PrioritiesAtRanks slot t (decodeTasks tasks) by-rank)
 
 abbrev μ-loop : tie.MeasureT-loop
 μ-loop tasks slot by-rank₀ t₀ by-rank t =
-    32 - t
+    taskCount - t
 
 loop-holds : tie.Need-loop-holds Inv-loop μ-loop
-loop-holds c = (search needs, (length-replicate {A = ℕ} 256 0, λ j h. absurd (omega arith)))
+loop-holds c = (search needs, (length-replicate {A = ℕ} byteValues 0, λ j h. absurd (omega arith)))
 
 loop-again : tie.Need-loop-again Inv-loop μ-loop
 loop-again c =
     let s = c .before .before .before .before .before .before in
     let k = c .before .before .before .before .loop .t in
     let ts = s .args .tasks .now in
-    let read = at-table decodeTask 32 136 ts k (c .before .before .before .loop-test .taken) (freshTask 1) in
+    let read = at-table decodeTask taskCount taskWidth ts k (c .before .before .before .loop-test .taken) (freshTask 1) in
     let queue : getD (decodeTasks ts) k (freshTask 1) .position .queue ≡ c .before .wide .result = ap (λ (w : Task). w .position .queue) read ∙ sym (c .before .wide .ensures .0 ∙ ap (λ (h : TaskHead). h .queue) (c .before .before .read-head .ensures)) in
     ⊎-elim
     (λ w.
@@ -57,7 +58,7 @@ loop-again c =
 
 returns : tie.Need-returns Inv-loop μ-loop
 returns c =
-    let e : c .before .loop .t ≡ 32 = omega arith in
+    let e : c .before .loop .t ≡ taskCount = omega arith in
     subst (λ (n : ℕ). PrioritiesAtRanks (c .before .before .before .args .slot) n (decodeTasks (c .before .before .before .args .tasks .now)) (c .before .loop .by-rank)) e (c .before .loop .inv .1 .1)
 
 pub priorities-by-rank-spec : {M : Type 1} → statement M

@@ -6,6 +6,7 @@ use native.Mathlib.Omega.{arith}
 use Rattle.ranks.proofs.Searches.{AllBelow, all-below, one-more-passes, all-pass, one-fails}
 use Rattle.ranks.proofs.Lists.{every-at}
 use Rattle.records.proofs.Writing.{length-decoded, at-table}
+use Rattle.records.specs.Layout.{slotCount, queueWidth}
 use Rattle.records.specs.Records.{freeQueue, Queue}
 use Rattle.records.specs.Bytes.{decodeQueue, decodeQueues}
 use Rattle.soundness.specs.Parts.{onlyTasks, taskPositions, queueRanked, queueInOrder}
@@ -15,11 +16,11 @@ use Rattle.soundness.proofs.priorities.priorities_sound.Tie as tie
 
 abbrev Inv-search : tie.InvT-search
 Inv-search queues tasks good₀ slot₀ good slot =
-    AllBelow (queueInOrder (onlyTasks tasks)) (decodeQueues queues) 16 good slot
+    AllBelow (queueInOrder (onlyTasks tasks)) (decodeQueues queues) slotCount good slot
 
 abbrev μ-search : tie.MeasureT-search
 μ-search queues tasks good₀ slot₀ good slot =
-    16 - slot
+    slotCount - slot
 
 search-holds : tie.Need-search-holds Inv-search μ-search
 search-holds c = all-below
@@ -34,20 +35,20 @@ queue-in-order-requires c κs =
         s .pre .1 .0,
         (
           omega arith,
-          subst (λ (q : Queue). queueRanked false (taskPositions (s .args .tasks .now)) i q ≡ true) (at-table decodeQueue 16 16 t i (omega arith) (freeQueue 0))
-              (every-at (queueRanked false (taskPositions (s .args .tasks .now))) (decodeQueues t) (freeQueue 0) (s .pre .1 .1) i (omega (arith, length-decoded decodeQueue 16 16 t))),
+          subst (λ (q : Queue). queueRanked false (taskPositions (s .args .tasks .now)) i q ≡ true) (at-table decodeQueue slotCount queueWidth t i (omega arith) (freeQueue 0))
+              (every-at (queueRanked false (taskPositions (s .args .tasks .now))) (decodeQueues t) (freeQueue 0) (s .pre .1 .1) i (omega (arith, length-decoded decodeQueue slotCount queueWidth t))),
         ),
       ),
     )
 
 search-again : tie.Need-search-again Inv-search μ-search
-search-again c = one-more-passes (freeQueue 0) (length-decoded _ _ _ _) (c .before .before .before .search .inv) (omega arith) (at-table decodeQueue 16 16 _ _ (omega arith) _) (c .before .queue-in-order .ensures) (c .if1 .left)
+search-again c = one-more-passes (freeQueue 0) (length-decoded _ _ _ _) (c .before .before .before .search .inv) (omega arith) (at-table decodeQueue slotCount queueWidth _ _ (omega arith) _) (c .before .queue-in-order .ensures) (c .if1 .left)
 
 returns : tie.Need-returns Inv-search μ-search
 returns c = all-pass (freeQueue 0) (length-decoded _ _ _ _) (c .before .search .inv) (omega arith)
 
 returns-2 : tie.Need-returns-2 Inv-search μ-search
-returns-2 c = one-fails (freeQueue 0) (length-decoded _ _ _ _) (c .before .before .before .search .inv) (omega arith) (at-table decodeQueue 16 16 _ _ (omega arith) _) (c .before .queue-in-order .ensures) (c .if1 .taken)
+returns-2 c = one-fails (freeQueue 0) (length-decoded _ _ _ _) (c .before .before .before .search .inv) (omega arith) (at-table decodeQueue slotCount queueWidth _ _ (omega arith) _) (c .before .queue-in-order .ensures) (c .if1 .taken)
 
 pub priorities-sound-spec : {M : Type 1} → statement M
 priorities-sound-spec = tie.close (tie.spec Inv-search μ-search search-holds queue-in-order-requires (search needs) (search needs) search-again returns returns-2)

@@ -1,11 +1,9 @@
 -- `soundness::queues::limit_in` meets its contract. Assumes nothing.
 use mathlib.Core.Path.{_≡_, sym, ap, subst, _∙_}
 use mathlib.Core.Bool.{true}
-use Prim.Native.Nat.{_*_}
 use native.Mathlib.Omega.{arith}
-use Rattle.ranks.specs.Table.{slice}
 use Rattle.records.specs.Records.{Queue}
-use Rattle.records.specs.Bytes.{decodeQueue}
+use Rattle.records.specs.Bytes.{decodeQueueAt}
 use Rattle.specification.specs.Sound.{soundQueue, limitIn}
 use Rattle.soundness.proofs.Cases.{limit-foreign, limit-own}
 use borrow.Author.Needs.{needs}
@@ -15,7 +13,7 @@ use Rattle.soundness.proofs.queues.limit_in.Tie as tie
 returns : tie.Need-returns
 returns c =
     let a = c .before .before .before .args in
-    (limit-foreign (decodeQueue (slice (a .slot * 16) 16 (a .queues .now))) (a .share) (a .slot) (λ e. c .if1 .taken (c .before .share-of-slot .ensures ∙ e)), omega arith)
+    (limit-foreign (decodeQueueAt (a .slot) (a .queues .now)) (a .share) (a .slot) (λ e. c .if1 .taken (c .before .share-of-slot .ensures ∙ e)), omega arith)
 
 returns-2 : tie.Need-returns-2
 returns-2 c =

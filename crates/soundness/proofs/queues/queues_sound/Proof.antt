@@ -5,6 +5,7 @@ use native.Mathlib.Omega.{arith}
 use borrow.Author.Needs.{needs}
 use Rattle.ranks.proofs.Searches.{AllBelow, all-below, one-more-passes, all-pass, one-fails}
 use Rattle.records.proofs.Writing.{length-decoded, at-table}
+use Rattle.records.specs.Layout.{slotCount, queueWidth}
 use Rattle.records.specs.Records.{freeQueue}
 use Rattle.records.specs.Bytes.{decodeQueue, decodeQueues}
 use Rattle.specification.specs.Sound.{soundQueue}
@@ -12,10 +13,10 @@ use Rattle.soundness.proofs.queues.queues_sound.Statement.{statement}
 use Rattle.soundness.proofs.queues.queues_sound.Tie as tie
 
 abbrev Inv-search : tie.InvT-search
-Inv-search queues good₀ slot₀ good slot = AllBelow (λ slot q. soundQueue q) (decodeQueues queues) 16 good slot
+Inv-search queues good₀ slot₀ good slot = AllBelow (λ slot q. soundQueue q) (decodeQueues queues) slotCount good slot
 
 abbrev μ-search : tie.MeasureT-search
-μ-search queues good₀ slot₀ good slot = 16 - slot
+μ-search queues good₀ slot₀ good slot = slotCount - slot
 
 search-holds : tie.Need-search-holds Inv-search μ-search
 search-holds c = all-below
@@ -23,7 +24,7 @@ search-holds c = all-below
 search-again : tie.Need-search-again Inv-search μ-search
 search-again c =
     let v = c .before .before .before .before .search in
-    one-more-passes (freeQueue 0) (length-decoded _ _ _ _) (v .inv) (omega arith) (at-table decodeQueue 16 16 _ _ (omega arith) _ ∙ sym (c .before .before .read-queue .ensures)) (c .before .queue-sound .ensures) (c .if1 .left)
+    one-more-passes (freeQueue 0) (length-decoded _ _ _ _) (v .inv) (omega arith) (at-table decodeQueue slotCount queueWidth _ _ (omega arith) _ ∙ sym (c .before .before .read-queue .ensures)) (c .before .queue-sound .ensures) (c .if1 .left)
 
 returns : tie.Need-returns Inv-search μ-search
 returns c = all-pass (freeQueue 0) (length-decoded _ _ _ _) (c .before .search .inv) (omega arith)
@@ -31,7 +32,7 @@ returns c = all-pass (freeQueue 0) (length-decoded _ _ _ _) (c .before .search .
 returns-2 : tie.Need-returns-2 Inv-search μ-search
 returns-2 c =
     let v = c .before .before .before .before .search in
-    one-fails (freeQueue 0) (length-decoded _ _ _ _) (v .inv) (omega arith) (at-table decodeQueue 16 16 _ _ (omega arith) _ ∙ sym (c .before .before .read-queue .ensures)) (c .before .queue-sound .ensures) (c .if1 .taken)
+    one-fails (freeQueue 0) (length-decoded _ _ _ _) (v .inv) (omega arith) (at-table decodeQueue slotCount queueWidth _ _ (omega arith) _ ∙ sym (c .before .before .read-queue .ensures)) (c .before .queue-sound .ensures) (c .if1 .taken)
 
 pub queues-sound-spec : {M : Type 1} → statement M
 queues-sound-spec =

@@ -8,10 +8,10 @@ use mathlib.Core.List.{List}
 use borrow.Author.Needs.{needs}
 use lib.ListN.{getD, drop, length}
 use Rattle.ranks.specs.Lists.{mapWithIndex, sumOf as total}
-use Rattle.ranks.specs.Table.{slice}
 use Rattle.ranks.proofs.Lists.{at-mapped, length-mapped, every-at}
+use Rattle.records.specs.Layout.{slotCount, queueWidth}
 use Rattle.records.specs.Records.{Queue, freeQueue}
-use Rattle.records.specs.Bytes.{decodeQueue, decodeQueues}
+use Rattle.records.specs.Bytes.{decodeQueue, decodeQueues, decodeQueueAt}
 use Rattle.records.proofs.Writing.{at-table, length-decoded}
 use Rattle.specification.specs.Sound.{soundQueue, limits, limitIn}
 use Rattle.soundness.proofs.Searched.{sum-more, sum-end}
@@ -22,19 +22,19 @@ abbrev parts : ℕ → List ℕ → List ℕ
 parts share t = mapWithIndex (limitIn share) (decodeQueues t)
 
 module _ (share : ℕ) (t : List ℕ) where
-  size : length (parts share t) ≡ 16
-  size = length-mapped (limitIn share) (decodeQueues t) ∙ length-decoded decodeQueue 16 16 t
+  size : length (parts share t) ≡ slotCount
+  size = length-mapped (limitIn share) (decodeQueues t) ∙ length-decoded decodeQueue slotCount queueWidth t
 
-  part-at : (i : ℕ) → i < 16 → getD (parts share t) i 0 ≡ limitIn share i (decodeQueue (slice (i * 16) 16 t))
+  part-at : (i : ℕ) → i < slotCount → getD (parts share t) i 0 ≡ limitIn share i (decodeQueueAt i t)
   part-at i h =
-      at-mapped (limitIn share) (decodeQueues t) i (freeQueue 0) 0 (omega (arith, length-decoded decodeQueue 16 16 t))
-      ∙ ap (limitIn share i) (at-table decodeQueue 16 16 t i h (freeQueue 0))
+      at-mapped (limitIn share) (decodeQueues t) i (freeQueue 0) 0 (omega (arith, length-decoded decodeQueue slotCount queueWidth t))
+      ∙ ap (limitIn share i) (at-table decodeQueue slotCount queueWidth t i h (freeQueue 0))
 
 abbrev Inv-loop : tie.InvT-loop
-Inv-loop queues share sum₀ slot₀ sum slot = (slot ≤ 16) × ((sum ≤ 255 * slot) × (sum + total (drop slot (parts share queues)) ≡ total (parts share queues)))
+Inv-loop queues share sum₀ slot₀ sum slot = (slot ≤ slotCount) × ((sum ≤ 255 * slot) × (sum + total (drop slot (parts share queues)) ≡ total (parts share queues)))
 
 abbrev μ-loop : tie.MeasureT-loop
-μ-loop queues share sum₀ slot₀ sum slot = 16 - slot
+μ-loop queues share sum₀ slot₀ sum slot = slotCount - slot
 
 loop-holds : tie.Need-loop-holds Inv-loop μ-loop
 loop-holds c =
@@ -49,8 +49,8 @@ limit-in-requires c κs =
       c .loop-test .taken,
       (
         s .pre .0,
-        subst (λ (q : Queue). soundQueue q ≡ true) (at-table decodeQueue 16 16 t i (c .loop-test .taken) (freeQueue 0))
-            (every-at (λ slot q. soundQueue q) (decodeQueues t) (freeQueue 0) (s .pre .1) i (omega (arith, length-decoded decodeQueue 16 16 t, c .loop-test .taken))),
+        subst (λ (q : Queue). soundQueue q ≡ true) (at-table decodeQueue slotCount queueWidth t i (c .loop-test .taken) (freeQueue 0))
+            (every-at (λ slot q. soundQueue q) (decodeQueues t) (freeQueue 0) (s .pre .1) i (omega (arith, length-decoded decodeQueue slotCount queueWidth t, c .loop-test .taken))),
       ),
     )
 

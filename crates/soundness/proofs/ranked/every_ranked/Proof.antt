@@ -1,5 +1,5 @@
 -- `soundness::ranked::every_ranked` meets its contract. Assumes nothing.
-use Prim.Native.Nat.{ℕ, _+_, _*_, _<_, _-_}
+use Prim.Native.Nat.{ℕ, _+_, _*_, _≤_, _<_, _-_}
 use native.Mathlib.Omega.{arith}
 use mathlib.Core.Path.{_≡_, refl, sym, _∙_}
 use mathlib.Core.Logic.{⊎-elim}
@@ -10,6 +10,7 @@ use Rattle.ranks.specs.Position.{Position}
 use Rattle.ranks.specs.Table.{records}
 use Rattle.ranks.proofs.Searches.{AllBelow, all-below, answered, one-more-passes, all-pass, one-fails}
 use Rattle.ranks.proofs.Table.{position-inside}
+use Rattle.records.specs.Layout.{byteValues, slotCount, queueWidth}
 use Rattle.records.specs.Records.{freeQueue}
 use Rattle.records.specs.Bytes.{decodeQueue, decodeQueues}
 use Rattle.records.proofs.Writing.{at-table, length-decoded}
@@ -37,11 +38,11 @@ abbrev μ-ranks : tie.MeasureT-ranks
 
 abbrev Inv-search : tie.InvT-search
 Inv-search queues t stride place count messages good₀ slot₀ good slot =
-    AllBelow (queueRanked messages (positions place (records count stride t))) (decodeQueues queues) 16 good slot
+    AllBelow (queueRanked messages (positions place (records count stride t))) (decodeQueues queues) slotCount good slot
 
 abbrev μ-search : tie.MeasureT-search
 μ-search queues t stride place count messages good₀ slot₀ good slot =
-    16 - slot
+    slotCount - slot
 
 -- the function's entry, a queue that was read, one that holds something, and a record that is looked at
 abbrev Entry : Type 0
@@ -78,7 +79,7 @@ visited : (c : Read) → Visited (entry c .args .messages) (decodeQueues (entry 
 visited c =
     record {
       inside = c .before .before .search-test .taken;
-      read = at-table decodeQueue 16 16 (entry c .args .queues .now) (slot-of c) (c .before .before .search-test .taken) (freeQueue 0) ∙ sym (c .before .read-queue .ensures);
+      read = at-table decodeQueue slotCount queueWidth (entry c .args .queues .now) (slot-of c) (c .before .before .search-test .taken) (freeQueue 0) ∙ sym (c .before .read-queue .ensures);
       count = c .held .ensures .0;
       low = entry c .pre .1 .1 .1 .0;
     }
@@ -96,8 +97,8 @@ one-of c = omega (arith, c .records-test .taken, among (holding c) .inside, size
 within : (c : Record) → c .before .records .k * start-of c .args .stride + start-of c .args .place + 1 < length (start-of c .args .t .now)
 within c = position-inside (start-of c .pre .1 .0) (c .before .records .k) (one-of c)
 
-few : (s : Entry) → s .args .count < 65
-few s = omega (arith, s .pre .1 .1 .0)
+few : (s : Entry) → s .args .count < byteValues
+few s = s .pre .1 .1 .0
 
 -- how many records stand at the rank
 counted : (c : tie.After-records Inv-records μ-records Inv-ranks μ-ranks Inv-search μ-search)
@@ -163,7 +164,7 @@ search-again c =
     let next = one-more-passes (freeQueue 0) (length-decoded _ _ _ _) (r .before .before .before .search .inv) (visited r .inside) (visited r .read) in
     ⊎-elim
     (λ w. answered (w .5 ∙ w .3 .inv .answer) (next (sym (queue-ranked (visited r) (λ k lt. w .3 .inv .once k (omega (arith, w .4 .left))))) refl))
-    (λ w. answered (w .1 ∙ r .before .before .before .search .inv .answer) (next (sym (queue-skipped (visited r) (w .0 .left))) refl))
+    (λ w. answered (w .1 ∙ r .before .before .before .search .inv .answer) (next (sym (queue-skipped (visited r) (c .before .is-live .ensures) (w .0 .left))) refl))
     (c .if1 .came)
 
 returns : tie.Need-returns Inv-records μ-records Inv-ranks μ-ranks Inv-search μ-search
@@ -174,7 +175,7 @@ returns-2 c =
     let h = c .before .before .before .before .before .before in
     let r = queue-of h in
     one-fails (freeQueue 0) (length-decoded _ _ _ _) (r .before .before .before .search .inv) (visited r .inside) (visited r .read)
-    (sym (queue-broken (visited r) (h .before .before .if1 .taken) (c .before .before .before .before .before .ranks .rank) (c .before .before .before .before .ranks-test .taken) (λ e. c .if2 .taken (counted (c .before) ∙ e)))) refl
+    (sym (queue-broken (visited r) (h .before .before .before .is-live .ensures) (h .before .before .if1 .taken) (c .before .before .before .before .before .ranks .rank) (c .before .before .before .before .ranks-test .taken) (λ e. c .if2 .taken (counted (c .before) ∙ e)))) refl
 
 pub every-ranked-spec : {M : Type 1} → statement M
-every-ranked-spec = tie.close (tie.spec Inv-records μ-records Inv-ranks μ-ranks Inv-search μ-search search-holds (search needs) (search needs) (search needs) (search needs) add-to ranks-holds number-at-requires records-holds mul-read-number add-read-number read-number-requires (search needs) add-found add-k (search needs) records-again (search needs) (search needs) ranks-again (search needs) (search needs) search-again returns returns-2)
+every-ranked-spec = tie.close (tie.spec Inv-records μ-records Inv-ranks μ-ranks Inv-search μ-search search-holds (search needs) (search needs) (search needs) (search needs) (search needs) add-to ranks-holds number-at-requires records-holds mul-read-number add-read-number read-number-requires (search needs) add-found add-k (search needs) records-again (search needs) (search needs) ranks-again (search needs) (search needs) search-again returns returns-2)

@@ -2,13 +2,13 @@
 use mathlib.Core.Path.{sym, ap, subst, _∙_}
 use Prim.Native.Nat.{ℕ, _<_}
 use borrow.Author.Needs.{needs}
-use Rattle.records.specs.Split.{shareLimit}
+use Rattle.records.specs.Split.{shareLimit, shareCount}
 use Rattle.records.proofs.Tabled.{slot-share-below}
 use Rattle.soundness.proofs.ranked.part_size.Statement.{statement}
 use Rattle.soundness.proofs.ranked.part_size.Tie as tie
 
 share-limit-requires : tie.Need-share-limit-requires
-share-limit-requires c κs = subst (λ (n : ℕ). n < 4) (sym (c .share-of-slot .ensures)) (slot-share-below (c .before .before .args .slot) (c .before .before .pre))
+share-limit-requires c κs = subst (λ (n : ℕ). n < shareCount) (sym (c .share-of-slot .ensures)) (slot-share-below (c .before .before .args .slot) (c .before .before .pre))
 
 returns : tie.Need-returns
 returns c = rw (c .before .before .if1 .taken) (c .share-limit .ensures ∙ ap shareLimit (c .before .share-of-slot .ensures))

@@ -2,13 +2,13 @@
 use mathlib.Core.Path.{sym, ap, subst, _∙_}
 use Prim.Native.Nat.{ℕ, _<_}
 use borrow.Author.Needs.{needs}
-use Rattle.records.specs.Split.{firstBuffer}
+use Rattle.records.specs.Split.{firstBuffer, shareCount}
 use Rattle.records.proofs.Tabled.{slot-share-below}
 use Rattle.soundness.proofs.ranked.part_start.Statement.{statement}
 use Rattle.soundness.proofs.ranked.part_start.Tie as tie
 
 first-buffer-requires : tie.Need-first-buffer-requires
-first-buffer-requires c κs = subst (λ (n : ℕ). n < 4) (sym (c .share-of-slot .ensures)) (slot-share-below (c .before .before .args .slot) (c .before .before .pre))
+first-buffer-requires c κs = subst (λ (n : ℕ). n < shareCount) (sym (c .share-of-slot .ensures)) (slot-share-below (c .before .before .args .slot) (c .before .before .pre))
 
 returns : tie.Need-returns
 returns c = rw (c .before .before .if1 .taken) (c .first-buffer .ensures ∙ ap firstBuffer (c .before .share-of-slot .ensures))

@@ -1,17 +1,12 @@
 -- `soundness::tasks::task_sound` meets its contract. Assumes nothing.
 use Prim.Native.Nat.{_-_}
 use native.Mathlib.Omega.{arith}
-use mathlib.Core.Path.{sym, ap₂, _∙_}
-use mathlib.Core.Bool.{Bool, _&&_, _||_}
-use lib.Dec.{eqb, ltb}
-use Rattle.ranks.specs.Lists.{allTrue}
-use Rattle.ranks.specs.Table.{byte}
-use Rattle.records.specs.Records.{Queue, freeQueue, isLive, isOpen}
+use mathlib.Core.Path.{sym, ap, _∙_}
+use Rattle.records.specs.Layout.{slotCount, queueWidth}
+use Rattle.records.specs.Records.{Queue, freeQueue}
 use Rattle.records.specs.Bytes.{decodeQueue, decodeTask}
-use Rattle.records.specs.Status.{WAITING}
 use Rattle.records.proofs.Writing.{at-table}
-use Rattle.specification.specs.Sound.{taskRules}
-use Rattle.soundness.specs.Parts.{onlyQueues}
+use Rattle.soundness.specs.Parts.{onlyQueues, waitingTaskTests}
 use Rattle.soundness.proofs.Cases.{task-is-ready, task-not-ready, task-nowhere, task-beyond, task-waiting}
 use borrow.Author.Needs.{needs}
 use Rattle.soundness.proofs.tasks.task_sound.Statement.{statement}
@@ -23,13 +18,13 @@ entry c = c .before .before .before .before .before .before .before .before
 returns : tie.Need-returns
 returns c =
     let a = c .before .before .before .before .args in
-    task-is-ready (onlyQueues (a .queues .now)) (a .t) (decodeTask (a .r .now)) (sym (c .before .ready-task .ensures) ∙ c .if1 .taken)
+    task-is-ready (onlyQueues (a .queues .now)) (a .t) (decodeTask (a .r .now)) (sym (c .before .ready-task-sound .ensures) ∙ c .if1 .taken)
 
 returns-2 : tie.Need-returns-2
 unfolding decodeTask
 returns-2 c =
     let a = c .before .before .before .before .before .before .args in
-    task-not-ready (onlyQueues (a .queues .now)) (a .t) (decodeTask (a .r .now)) (c .if2 .taken) (sym (c .before .before .if1 .left) ∙ c .before .before .before .ready-task .ensures)
+    task-not-ready (onlyQueues (a .queues .now)) (a .t) (decodeTask (a .r .now)) (c .if2 .taken) (sym (c .before .before .if1 .left) ∙ c .before .before .before .ready-task-sound .ensures)
 
 returns-3 : tie.Need-returns-3
 unfolding decodeTask
@@ -44,20 +39,24 @@ returns-4 c =
     let ne = c .before .if3 .left in
     task-beyond (onlyQueues (a .queues .now)) (a .t) (decodeTask (a .r .now)) (c .before .before .before .before .if2 .left) (c .before .before .wide .result - 1) (sym (c .before .before .wide .ensures .0) ∙ omega arith) (c .if4 .taken)
 
+waiting-task-sound-requires : tie.Need-waiting-task-sound-requires
+waiting-task-sound-requires c κs =
+    let w = c .before .before .before in
+    let s = entry w in
+    let ne = c .before .before .if3 .left in
+    (c .before .if4 .left, (s .pre .1 .1, (s .pre .1 .0, sym (w .wide .ensures .0) ∙ omega arith)))
+
 returns-5 : tie.Need-returns-5
 unfolding decodeTask
 returns-5 c =
-    let w = c .before .before .before .before .before .before in
+    let w = c .before .before .before .before in
     let a = entry w .args in
-    let ne = c .before .before .before .before .before .if3 .left in
-    let t = a .queues .now in
-    let r = a .r .now in
-    let lt = c .before .before .before .before .if4 .left in
-    c .waiting-task .ensures
-    ∙ ap₂ (λ (own : Bool) (q : Queue). allTrue (taskRules (decodeTask r)) && (isLive q && (own || isOpen q) && eqb (byte 4 r) WAITING && eqb (byte 5 r) 0) && ltb (byte 2 r) (q .waiters))
-    (ap₂ eqb (c .before .before .share-of-slot .ensures) (c .before .share-of-task .ensures))
-    (c .before .before .before .read-queue .ensures ∙ sym (at-table decodeQueue 16 16 t (w .wide .result - 1) lt (freeQueue 0)))
-    ∙ task-waiting (onlyQueues t) (a .t) (decodeTask r) (c .before .before .before .before .before .before .before .before .if2 .left) (w .wide .result - 1) (sym (w .wide .ensures .0) ∙ omega arith) lt
+    let ne = c .before .before .before .if3 .left in
+    let slot = w .wide .result - 1 in
+    c .waiting-task-sound .ensures
+    ∙ ap (λ (q : Queue). waitingTaskTests q slot (a .t) (decodeTask (a .r .now)))
+    (c .before .read-queue .ensures ∙ sym (at-table decodeQueue slotCount queueWidth (a .queues .now) slot (c .before .before .if4 .left) (freeQueue 0)))
+    ∙ task-waiting (onlyQueues (a .queues .now)) (a .t) (decodeTask (a .r .now)) (w .before .before .if2 .left) slot (sym (w .wide .ensures .0) ∙ omega arith)
 
 pub task-sound-spec : {M : Type 1} → statement M
-task-sound-spec = tie.close (tie.spec (search needs) returns (search needs) returns-2 (search needs) (search needs) returns-3 (search needs) returns-4 (search needs) (search needs) (search needs) (search needs) returns-5)
+task-sound-spec = tie.close (tie.spec (search needs) returns (search needs) returns-2 (search needs) (search needs) returns-3 (search needs) returns-4 (search needs) waiting-task-sound-requires returns-5)

@@ -2,7 +2,7 @@
 use mathlib.Core.Bool.{false}
 use native.Mathlib.Omega.{arith}
 use Rattle.records.specs.Records.{freshTask}
-use Rattle.records.specs.Bytes.{decodeQueues, decodeTasks}
+use Rattle.records.specs.Bytes.{decodeTasks}
 use Rattle.specification.specs.Sound.{soundTask}
 use Rattle.soundness.specs.Parts.{onlyQueues, taskPositions}
 use Rattle.soundness.proofs.RecordTests.{Table, tasks-shape, tasks-table, table-fails, ranks-below, ranks-decide, waiters-among}
@@ -10,7 +10,7 @@ use borrow.Author.Needs.{needs}
 use Rattle.soundness.proofs.tasks.tasks_sound.Statement.{statement}
 use Rattle.soundness.proofs.tasks.tasks_sound.Tie as tie
 
-table : (s : tie.Start) → Table (soundTask (onlyQueues (s .args .queues .now))) (λ w. w .position) (decodeTasks (s .args .tasks .now)) (freshTask 1) (decodeQueues (s .args .queues .now)) (taskPositions (s .args .tasks .now))
+table : (s : tie.Start) → Table (soundTask (onlyQueues (s .args .queues .now))) (λ w. w .position) (decodeTasks (s .args .tasks .now)) (freshTask 1) (onlyQueues (s .args .queues .now)) (taskPositions (s .args .tasks .now))
 table s = tasks-table (s .args .queues .now) (s .args .tasks .now) (s .pre .1)
 
 returns : tie.Need-returns

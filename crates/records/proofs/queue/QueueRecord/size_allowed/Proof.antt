@@ -1,0 +1,12 @@
+-- `records::queue::QueueRecord::size_allowed` meets its contract. Assumes nothing.
+use Rattle.records.specs.Records.{sizeAllowed}
+use borrow.Author.Needs.{needs}
+use Rattle.records.proofs.queue.QueueRecord.size_allowed.Statement.{statement}
+use Rattle.records.proofs.queue.QueueRecord.size_allowed.Tie as tie
+
+returns : tie.Need-returns
+unfolding sizeAllowed
+returns c = c .is-within .ensures
+
+pub size-allowed-spec : {M : Type 1} → statement M
+size-allowed-spec = tie.close (tie.spec (search needs) (search needs) returns)

@@ -1,0 +1,37 @@
+// Document 01, "Tables": how many records each table has, how many bytes a record has, and where its fields stand.
+pub const BYTE_VALUES: usize = 256;
+
+pub const CAPACITY: usize = 120;
+
+pub const LARGEST_LIMIT: usize = 16;
+
+pub const SLOT_COUNT: usize = 16;
+
+pub const QUEUE_WIDTH: usize = 16;
+
+pub const QUEUES_SIZE: usize = SLOT_COUNT * QUEUE_WIDTH;
+
+pub const BUFFER_COUNT: usize = 64;
+
+pub const BUFFER_WIDTH: usize = BUFFER_DATA + CAPACITY;
+
+pub const POOL_SIZE: usize = BUFFER_COUNT * BUFFER_WIDTH;
+
+pub const TASK_COUNT: usize = 32;
+
+pub const TASK_WIDTH: usize = TASK_DATA + CAPACITY;
+
+pub const TASKS_SIZE: usize = TASK_COUNT * TASK_WIDTH;
+
+pub const SHARE_COUNT: usize = 4;
+
+// Where a field stands in its record: the position (queue, then rank), a message's length, its bytes.
+pub const BUFFER_POSITION: usize = 0;
+
+pub const BUFFER_LENGTH: usize = 2;
+
+pub const BUFFER_DATA: usize = 8;
+
+pub const TASK_POSITION: usize = 1;
+
+pub const TASK_DATA: usize = 16;

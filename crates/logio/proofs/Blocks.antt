@@ -15,15 +15,15 @@ use Rattle.records.specs.Bytes.{Tables}
 use Rattle.calllog.specs.CallLog.{recordWidth, answerWidth, recordCount}
 use Rattle.runs.specs.Replay.{Replayed, replayRecord, replayRecords, recordsOf, replayed}
 use Rattle.runs.proofs.Replays.{answers-size}
-use Rattle.logio.specs.declared.reading.Input.{Input}
-use Rattle.logio.specs.declared.reading.Filled.{Filled}
+use Rattle.streams.specs.declared.reading.Input.{Input}
+use Rattle.streams.specs.declared.reading.Filled.{Filled}
 use Rattle.logio.specs.declared.block.BlockReplayed.{BlockReplayed}
 use Rattle.logio.specs.declared.input.Ending.{Ending}
 use Rattle.logio.specs.declared.input.Ending.the-variants.{GoesOn, Complete}
-use Rattle.logio.specs.Filling.{standardInput, Fills, full, ended, failed, more}
+use Rattle.streams.specs.Filling.{standardInput, Fills, full, ended, failed, more}
 use Rattle.logio.specs.Turns.{blockRecords, blockBytes, ReplaysBlock, afterBlock, goesOn, Finished, Turn, Turns, last, spent, logOf, answersOf, ReplayedInTurns}
 use Rattle.logio.specs.Turns as Turns
-use Rattle.logio.proofs.Added.{room-left}
+use Rattle.streams.proofs.Added.{room-left}
 use Rattle.logio.proofs.Room.{front-answers}
 
 -- a log's second part replayed on the tables that its first part leaves

@@ -1,3 +1,2 @@
-pub mod Added
 pub mod Blocks
 pub mod Room

@@ -7,13 +7,13 @@ use Rattle.ranks.specs.Lists.{if_then_else_}
 use Rattle.records.specs.Bytes.{Tables}
 use Rattle.calllog.specs.CallLog.{recordWidth, answerWidth, recordCount}
 use Rattle.runs.specs.Replay.{replayed, replayedFront}
-use Rattle.logio.specs.declared.reading.Input.{Input}
-use Rattle.logio.specs.declared.reading.Filled.{Filled}
+use Rattle.streams.specs.declared.reading.Input.{Input}
+use Rattle.streams.specs.declared.reading.Filled.{Filled}
 use Rattle.logio.specs.declared.block.BlockReplayed.{BlockReplayed}
 use Rattle.logio.specs.declared.input.Ending.{Ending}
 use Rattle.logio.specs.declared.input.Ending.the-variants.{GoesOn, Complete, NotRead, NotWritten}
-use Rattle.logio.specs.Filling.{standardInput, Fills}
-use Rattle.logio.specs.Writing.{standardOutput, WritesAnswers, inputName, outputName, lengthName, Says}
+use Rattle.streams.specs.Filling.{standardInput, Fills}
+use Rattle.streams.specs.Writing.{standardOutput, WritesAnswers, inputName, outputName, lengthName, Says}
 
 -- how many records a block has
 abbrev pub blockRecords : ℕ

@@ -4,11 +4,11 @@ ghost use lib.ListN.{length};
 ghost use Rattle.records.specs.Bytes.{tables};
 ghost use Rattle.calllog.specs.CallLog.{answerWidth, recordCount};
 ghost use Rattle.logio.specs.Turns.{ReplaysBlock};
-use crate::reading::Input;
-use crate::reading::fill;
 use calllog::layout::ANSWER_WIDTH;
 use calllog::layout::RECORD_WIDTH;
 use runs::replay::replay_all;
+use streams::reading::Input;
+use streams::reading::fill;
 
 // How many records a block has.
 const BLOCK_RECORDS: usize = 481;

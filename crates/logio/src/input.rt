@@ -9,10 +9,10 @@ use crate::block::ANSWERS;
 use crate::block::BLOCK;
 use crate::block::BlockReplayed;
 use crate::block::replay_block;
-use crate::reading::standard_input;
-use crate::writing::say_failed;
-use crate::writing::standard_output;
-use crate::writing::write_answers;
+use streams::reading::standard_input;
+use streams::writing::say_failed;
+use streams::writing::standard_output;
+use streams::writing::write_answers;
 
 // What became of a log.
 pub enum Ending {

@@ -11,7 +11,7 @@ use Rattle.ranks.specs.Lists.{allTrue, every, firstTrue, mapWithIndex}
 use Rattle.ranks.proofs.Lists.{holds}
 use Rattle.records.specs.Split.{shareOfSlot, shareOfTask}
 use Rattle.records.specs.Records.{Queue, State, attributesAllowed, queueAt, freeQueue}
-use Rattle.records.specs.Layout.{idOf, slotCount, queueWidth}
+use Rattle.records.specs.Layout.{idOf, slotCount, queueWidth, lastGeneration}
 use Rattle.records.specs.Bytes.{Tables, decodeQueue, decodeQueues, decode, encode, decodeQueueAt}
 use Rattle.records.specs.Status.{SUCCESSFUL, statusNumber}
 use Rattle.records.specs.declared.status.RefusalStatus.{RefusalStatus}
@@ -71,12 +71,12 @@ module _ (t : Tables) (caller name limit maxSize attributes share : ℕ) (own : 
     before = decodeQueueAt slot (t .queues)
 
     -- a free slot that was found is not spent
-    not-spent : slot < slotCount → before .generation < 65535
+    not-spent : slot < slotCount → before .generation < lastGeneration
     not-spent h =
         let free : isFreeSlot share slot before ≡ true =
         search-found decodeQueue (freeQueue 0) slotCount queueWidth (isFreeSlot share) (t .queues) slot h (searched .found) in
-        let (unused, (own-share, (unspent, _))) = holds (eqb (before .live) 0 ∷ eqb (shareOfSlot slot) share ∷ ltb (before .generation) 65535 ∷ []) free in
-        ltb-true (before .generation) 65535 unspent
+        let (unused, (own-share, (unspent, _))) = holds (eqb (before .live) 0 ∷ eqb (shareOfSlot slot) share ∷ ltb (before .generation) lastGeneration ∷ []) free in
+        ltb-true (before .generation) lastGeneration unspent
 
     pub may-create : MayCreate (t .queues) share name limit maxSize attributes slot
     unfolding freeSlot

@@ -85,9 +85,9 @@ module _ (t : Tables) (caller id : ℕ) (q : Queue) (read : q ≡ decodeQueueAt 
           let (usable, (size, _)) = none-holds (broadcastTests q caller id (length message)) (broadcast-tests .numbered) passed in
           known .fits (length message) (subst (λ (x : Queue). sizeAllowed x (length message) ≡ true) here (not-false (sizeAllowed q (length message)) size))
 
-      pub broadcast-done : (t′ : Tables) → encode (decode t′) ≡ t′ → (woken : ℕ) → woken ≡ mask (waitersOf (slotOf id) (decodeTasks (t .tasks)))
-          → decode t′ ≡ Broadcast.effect (decode t) (slotOf id) message .after → outcomeOf (Successful (ones woken) woken) t′ ≡ accepted t caller (onQueue id (broadcast message))
+      pub broadcast-done : (t′ : Tables) → encode (decode t′) ≡ t′ → (n woken : ℕ) → n ≡ ones woken → woken ≡ mask (waitersOf (slotOf id) (decodeTasks (t .tasks)))
+          → decode t′ ≡ Broadcast.effect (decode t) (slotOf id) message .after → outcomeOf (Successful n woken) t′ ≡ accepted t caller (onQueue id (broadcast message))
       unfolding answerOf operationEffect Broadcast.effect decode
-      broadcast-done t′ bytes woken e left =
-          done broadcast-tests passed _ refl (Successful (ones woken) woken) t′
-          (λ i. record { status = SUCCESSFUL; value = (ap ones e ∙ ones-mask (waitersOf (slotOf id) (decodeTasks (t .tasks)))) i; woken = e i }) left bytes
+      broadcast-done t′ bytes n woken counted e left =
+          done broadcast-tests passed _ refl (Successful n woken) t′
+          (λ i. record { status = SUCCESSFUL; value = (counted ∙ ap ones e ∙ ones-mask (waitersOf (slotOf id) (decodeTasks (t .tasks)))) i; woken = e i }) left bytes

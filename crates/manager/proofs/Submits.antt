@@ -11,7 +11,7 @@ use Rattle.ranks.specs.Lists.{if_then_else_, findIndex, allTrue}
 use Rattle.ranks.specs.Steps.{recordAt}
 use Rattle.records.specs.Layout.{slotOf, capacity, bufferCount, taskCount}
 use Rattle.records.specs.Split.{shareOfSlot}
-use Rattle.records.specs.Records.{Queue, State, sizeAllowed, queueAt}
+use Rattle.records.specs.Records.{Queue, State, sizeAllowed, isFull, queueAt}
 use Rattle.records.specs.Bytes.{Tables, decodePool, decodeTasks, decode, encode, decodeQueueAt}
 use Rattle.records.specs.Status.{SUCCESSFUL, INVALID-SIZE, TOO-MANY, NO-BUFFER}
 use Rattle.specification.specs.Answer.{Refusal, _⇒_, firstStatus}
@@ -19,7 +19,7 @@ use Rattle.specification.specs.Call.{Operation, onQueue, send, urgent}
 use Rattle.specification.specs.Lookup.{firstWaiter}
 use Rattle.specification.specs.Step.{operationRefusals, operationEffect}
 use Rattle.specification.specs.Submit
-use Rattle.specification.specs.Submit.{submitTests, isFull, isFreeOf, freeBufferOf, delivered, enqueued}
+use Rattle.specification.specs.Submit.{submitTests, isFreeOf, freeBufferOf, delivered, enqueued}
 use Rattle.specification.proofs.Refused.{none-holds}
 use Rattle.theorems.proofs.FieldsInRange.{decoded-sized}
 use Rattle.coremsg.proofs.Changed.{mask-one}

@@ -27,7 +27,7 @@ use Rattle.theorems.proofs.SoundTick.{tickTask-sound}
 use Rattle.manager.specs.Outcomes.{answerOf, outcomeOf}
 use Rattle.coremsg.specs.Ticks.{NamesSlot}
 use Rattle.manager.specs.declared.answer.Answer.the-variants.{Successful}
-use Rattle.manager.proofs.Outcomes.{Slice}
+use Rattle.records.proofs.ByteLists.{Slice, bytes-lent}
 
 pub names-slot : (t : Tables) → SoundFacts (decode t) → (k : ℕ) → k < taskCount → NamesSlot (decodeTaskAt k (t .tasks))
 names-slot t g k h =
@@ -83,20 +83,20 @@ module _ (q₀ p w₀ : List ℕ) where
 
     -- ---- The whole tick
 
-    pub tick-done : taskCount ≤ t → rightLengths (tables q₀ p w₀) ≡ true → Slice p → (woken : ℕ)
+    pub tick-done : taskCount ≤ t → rightLengths (tables q₀ p w₀) ≡ true → Slice p → (n woken : ℕ) → n ≡ ones woken
         → woken ≡ mask (expiring (decodeTasks w₀))
-        → outcomeOf (Successful (ones woken) woken) (tables q p w) ≡ encoded (effect (decode (tables q₀ p w₀)) tick)
+        → outcomeOf (Successful n woken) (tables q p w) ≡ encoded (effect (decode (tables q₀ p w₀)) tick)
     unfolding answerOf effect Tick.effect rightLengths decode
-    tick-done h ok bp woken e =
+    tick-done h ok bp n woken counts e =
         let same : rightLengths (tables q p w) ≡ true = rw (before .queuesSize, before .tasksSize) ok in
         let bytes : encode (decode (tables q p w)) ≡ tables q p w =
         encode-decode (tables q p w)
         (record {
           lengths = same;
-          queues = record { below = λ i _. before .queuesBytes i };
-          pool = record { below = λ i _. bp i };
-          tasks = record { below = λ i _. before .tasksBytes i };
+          queues = bytes-lent q (before .queuesBytes);
+          pool = bytes-lent p bp;
+          tasks = bytes-lent w (before .tasksBytes);
         }) in
-        let counted = ap ones e ∙ ones-mask (expiring (decodeTasks w₀)) in
+        let counted = counts ∙ ap ones e ∙ ones-mask (expiring (decodeTasks w₀)) in
         let left = sym bytes ∙ ap encode (all-ticked h) in
         λ i. record { answer = record { status = SUCCESSFUL; value = counted i; woken = e i }; after = left i }

@@ -40,7 +40,7 @@ fn refusal(q: QueueRecord, caller: usize, id: u32, size: usize, t: usize, b: usi
     if !q.size_allowed(size) {
         return Verdict::Refused(RefusalStatus::InvalidSize);
     }
-    if (TASK_COUNT <= t) & (q.limit <= q.pending) {
+    if (TASK_COUNT <= t) & q.is_full() {
         return Verdict::Refused(RefusalStatus::TooMany);
     }
     if (TASK_COUNT <= t) & (BUFFER_COUNT <= b) {

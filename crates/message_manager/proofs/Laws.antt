@@ -11,8 +11,9 @@ use Rattle.records.specs.Bytes.{Tables, toLittleEndian}
 use Rattle.records.specs.Status.{BAD-SHAPE}
 use Rattle.specification.specs.Answer.{Answer, Outcome}
 use Rattle.calllog.specs.CallLog.{answerBytes, answerWidth}
-use Rattle.runs.specs.Fresh.{MadeFresh}
-use Rattle.runs.specs.Replay.{answerRecord, Replayed, ReplayedInto, intoLent}
+use Rattle.fresh_tables.specs.Fresh.{MadeFresh}
+use Rattle.logged_calls.specs.LoggedCall.{answerRecord}
+use Rattle.runs.specs.Replay.{Replayed, ReplayedInto, intoLent}
 use Rattle.message_manager.specs.Interface.{answeredInto, returnedOf, returnedAlone}
 
 -- An answer record that is written from place 0 on fills a buffer of 16 bytes.

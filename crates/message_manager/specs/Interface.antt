@@ -8,8 +8,9 @@ use Rattle.specification.specs.Answer.{Outcome}
 use Rattle.specification.specs.Call.{Operation, Call, delete, send, urgent, broadcast, receive, getNumberPending, flush, create, ident, onQueue, call, tick}
 use Rattle.specification.specs.Step.{step}
 use Rattle.calllog.specs.CallLog.{readRecord, messageOf, answerWidth}
-use Rattle.runs.specs.Fresh.{MadeFresh, madeFresh}
-use Rattle.runs.specs.Replay.{answerRecord, outcomeFor, ReplayedInto, replayedInto}
+use Rattle.fresh_tables.specs.Fresh.{MadeFresh, madeFresh}
+use Rattle.logged_calls.specs.LoggedCall.{answerRecord, outcomeFor}
+use Rattle.runs.specs.Replay.{ReplayedInto, replayedInto}
 
 pub record Returned : Type 0 where
   pub status : ℕ

@@ -2,9 +2,9 @@
 ghost use mathlib.Core.Path.{_≡_};
 ghost use Rattle.records.specs.Bytes.{tables};
 ghost use Rattle.message_manager.specs.Interface.{freshTablesMade};
+use fresh_tables::make::make_fresh;
 use records::status::BAD_SHAPE;
 use records::status::SUCCESSFUL;
-use runs::fresh::make_fresh;
 
 // Makes the tables fresh. Where a table has a wrong length, or the priorities are not those of 32 tasks, each 1 to 255, returns 16 and
 // does nothing.

@@ -10,9 +10,9 @@ use calllog::decode::message_field;
 use calllog::layout::ANSWER_WIDTH;
 use calllog::layout::RECORD_WIDTH;
 use calllog::reader::read_at;
+use logged_calls::answer::answer_searching;
 use records::status::BAD_SHAPE;
 use records::status::SUCCESSFUL;
-use runs::answer::answer_searching;
 use runs::replay::replay;
 
 // What the record says; one of another length than 136 bytes is malformed.

@@ -5,6 +5,7 @@ use mathlib.Core.Bool.{Bool, true, false, _&&_, _||_}
 use mathlib.Core.List.{[], _∷_}
 use lib.Dec.{eqb, ltb}
 use Rattle.ranks.specs.Lists.{allTrue}
+use Rattle.records.specs.Layout.{lastGeneration}
 use Rattle.records.specs.Split.{shareOfSlot, shareOfTask}
 use Rattle.records.specs.Records.{Queue, isLive, isOpen}
 use Rattle.specification.specs.Create.{isFreeSlot}
@@ -18,7 +19,7 @@ three true false c = refl
 three false b c = refl
 
 -- the tests of one slot, as the code has them
-pub free-test : (share i : ℕ) (q : Queue) (s : ℕ) → s ≡ shareOfSlot i → (eqb (q .live) 0 && eqb s share && ltb (q .generation) 65535) ≡ isFreeSlot share i q
+pub free-test : (share i : ℕ) (q : Queue) (s : ℕ) → s ≡ shareOfSlot i → (eqb (q .live) 0 && eqb s share && ltb (q .generation) lastGeneration) ≡ isFreeSlot share i q
 free-test share i q s e = rw e (three _ _ _)
 
 four : (a b c d : Bool) → (a && b && c && d) ≡ allTrue (a ∷ b ∷ c ∷ d ∷ [])

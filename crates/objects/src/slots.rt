@@ -11,6 +11,7 @@ ghost use Rattle.specification.specs.Create.{isFreeSlot, effect};
 ghost use Rattle.specification.specs.Ident.{isNamed};
 ghost use Rattle.objects.specs.Slots.{SlotReady};
 use crate::lookup::id_of;
+use records::layout::LAST_GENERATION;
 use records::layout::SLOT_COUNT;
 use records::queue::read_queue;
 use records::queue::write_queue;
@@ -23,7 +24,7 @@ fn is_free_slot(queues: &[u8], share: usize, slot: usize) -> bool
     ensures { λ r. ⌜ r ≡ isFreeSlot share slot (decodeQueueAt slot (now (queues .entry))) ⌝ }
 {
     let q = read_queue(queues, slot);
-    (q.live == 0) & (share_of_slot(slot) == share) & (q.generation < 65535)
+    (q.live == 0) & (share_of_slot(slot) == share) & (q.generation < LAST_GENERATION)
 }
 
 // The lowest such slot, or the number of slots if there is none.

@@ -15,6 +15,13 @@ use Rattle.records.specs.Records.{Queue, Buffer, Task, State, freeQueue,
 use Rattle.records.specs.InRange.{AllBytes, QueueInRange, BufferInRange, TaskInRange, FieldsInRange}
 use Rattle.records.proofs.DecodeEncode.{Each, each-of}
 
+-- the elements of a lent slice of bytes
+abbrev pub Slice : List ℕ → Type 0
+Slice l = (i : ℕ) → getD l i 0 < byteValues
+
+pub bytes-lent : (l : List ℕ) → Slice l → AllBytes l
+bytes-lent l b = record { below = λ i _. b i }
+
 pub bytes-nil : AllBytes []
 bytes-nil = record { below = λ i h. absurd (not-suc-le-zero h) }
 
@@ -71,8 +78,8 @@ pub bytes-queue : (q : Queue) → QueueInRange q → AllBytes (encodeQueue q)
 unfolding encodeQueue
 bytes-queue q r =
     bytes-cons (r .live) (bytes-cons (r .attributes) (bytes-cons (r .limit) (bytes-cons (r .maxSize)
-    (bytes-append (bytes-number 2 (q .generation))
-    (bytes-cons (r .pending) (bytes-cons (r .waiters) (bytes-append (bytes-number 4 (q .name)) (r .reserved .each))))))))
+    (bytes-append (bytes-append (bytes-number 2 (q .generation))
+    (bytes-cons (r .pending) (bytes-cons (r .waiters) (bytes-number 4 (q .name))))) (r .reserved .each)))))
 
 pub bytes-buffer : (m : Buffer) → BufferInRange m → AllBytes (encodeBuffer m)
 unfolding encodeBuffer
@@ -84,7 +91,7 @@ unfolding encodeTask
 bytes-task w r =
     bytes-cons (r .state) (bytes-cons (r .queue) (bytes-cons (r .rank) (bytes-cons (r .priority) (bytes-cons (r .status)
     (bytes-cons (r .messageLength)
-    (bytes-append (r .reserved .each) (bytes-append (bytes-number 4 (w .ticksLeft)) (bytes-append (r .reservedAfter .each) (r .receiveBuffer .each)))))))))
+    (bytes-append (bytes-append (bytes-append (r .reserved .each) (bytes-number 4 (w .ticksLeft))) (r .reservedAfter .each)) (r .receiveBuffer .each)))))))
 
 bytes-records : {A : Type 0} (write : A → List ℕ) (Fit : A → Type 0) → ((a : A) → Fit a → AllBytes (write a)) → (l : List A) → Each Fit l
     → AllBytes (flatten (map write l))

@@ -3,7 +3,7 @@ use Prim.Native.Nat.{ℕ, zero, suc, _+_, _*_, _/_, _^_, _<_}
 use native.Mathlib.Omega.{arith}
 use native.Mathlib.Nat.{not-suc-le-zero, div-lt-iff-lt-mul, pow-suc}
 use mathlib.Core.Path.{_≡_, refl, ap, ap₂, _∙_, subst}
-use mathlib.Core.List.{List, [], _∷_, _++_, map, flatten}
+use mathlib.Core.List.{List, [], _∷_, _++_, map, flatten, append-assoc}
 use lib.ListN.{length, getD, take, drop, length-append}
 use lib.Seq.{take-all, take-at, drop-at, drop-append-add}
 use Rattle.records.specs.Layout.{byteValues, capacity, queueWidth, bufferWidth, taskWidth}
@@ -62,10 +62,23 @@ length-task w f =
     let b = f .reservedAfter in
     let c = f .receiveBuffer in
     let d = length-little-endian 4 (w .ticksLeft) in
-    let l₁ = length-append (w .reserved) (toLittleEndian 4 (w .ticksLeft) ++ (w .reservedAfter ++ w .receiveBuffer)) in
-    let l₂ = length-append (toLittleEndian 4 (w .ticksLeft)) (w .reservedAfter ++ w .receiveBuffer) in
-    let l₃ = length-append (w .reservedAfter) (w .receiveBuffer) in
+    let l₁ = length-append (w .reserved ++ toLittleEndian 4 (w .ticksLeft) ++ w .reservedAfter) (w .receiveBuffer) in
+    let l₂ = length-append (w .reserved ++ toLittleEndian 4 (w .ticksLeft)) (w .reservedAfter) in
+    let l₃ = length-append (w .reserved) (toLittleEndian 4 (w .ticksLeft)) in
     omega arith
+
+-- ---- The bytes by what follows each field
+
+pub queue-fields : (q : Queue) → encodeQueue q
+    ≡ q .live ∷ q .attributes ∷ q .limit ∷ q .maxSize ∷ toLittleEndian 2 (q .generation) ++ (q .pending ∷ q .waiters ∷ toLittleEndian 4 (q .name) ++ q .reserved)
+unfolding encodeQueue toLittleEndian
+queue-fields q = refl
+
+pub task-fields : (w : Task) → encodeTask w
+    ≡ w .state ∷ w .position .queue ∷ w .position .rank ∷ w .priority ∷ w .status ∷ w .messageLength
+    ∷ w .reserved ++ (toLittleEndian 4 (w .ticksLeft) ++ (w .reservedAfter ++ w .receiveBuffer))
+unfolding encodeTask
+task-fields w = simp append-assoc
 
 -- ---- Reading what was written
 
@@ -84,9 +97,10 @@ behind : (xs ys : List ℕ) (n k : ℕ) → length xs ≡ n → drop (n + k) (xs
 behind xs ys n k e = subst (λ (m : ℕ). drop (m + k) (xs ++ ys) ≡ drop k ys) e (drop-append-add xs ys k)
 
 pub decode-encode-task : (w : Task) → TaskEncodable w → decodeTask (encodeTask w) ≡ w
-unfolding decodeTask encodeTask slice
+unfolding decodeTask slice
 decode-encode-task w f =
     rw (
+      task-fields w,
       take-at (w .reserved) behind-two 2 (f .reserved),
       drop-at (w .reserved) behind-two 2 (f .reserved),
       take-at ticks behind-six 4 four,

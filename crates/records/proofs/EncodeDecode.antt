@@ -10,6 +10,7 @@ use lib.ListN.{length, take, drop, take-append-drop, length-drop, length-take}
 use lib.Seq.{take-all, drop-cons}
 use borrow.Author.Tests.{eqb-true}
 use Rattle.records.proofs.ByteLists.{bytes-head, bytes-tail, bytes-take, bytes-drop}
+use Rattle.records.proofs.DecodeEncode.{queue-fields, task-fields}
 use Rattle.records.proofs.Writing.{part-and-rest}
 use Rattle.records.specs.Layout.{byteValues, capacity, slotCount, queueWidth, queuesSize, bufferCount, bufferWidth, bufferData, poolSize, taskCount, taskWidth, taskData, tasksSize}
 use Rattle.records.specs.Bytes.{fromLittleEndian, toLittleEndian, decodeQueue, encodeQueue, decodeBuffer, encodeBuffer, decodeTask, encodeTask, Tables, decode, encode, rightLengths}
@@ -61,9 +62,10 @@ module _ (r : List ℕ) {w : ℕ} (long : length r ≡ w) (b : AllBytes r) where
 
 module _ (r : List ℕ) where
   encode-decode-queue : length r ≡ queueWidth → AllBytes r → encodeQueue (decodeQueue r) ≡ r
-  unfolding decodeQueue encodeQueue
+  unfolding decodeQueue
   encode-decode-queue n b =
-      one r n b 0 (omega arith) (one r n b 1 (omega arith) (one r n b 2 (omega arith) (one r n b 3 (omega arith) (number r n b 4 2 (omega arith)
+      queue-fields (decodeQueue r)
+      ∙ one r n b 0 (omega arith) (one r n b 1 (omega arith) (one r n b 2 (omega arith) (one r n b 3 (omega arith) (number r n b 4 2 (omega arith)
       (one r n b 6 (omega arith) (one r n b 7 (omega arith) (number r n b 8 4 (omega arith) (last r n b 12 4 refl))))))))
 
   encode-decode-buffer : length r ≡ bufferWidth → AllBytes r → encodeBuffer (decodeBuffer r) ≡ r
@@ -71,9 +73,10 @@ module _ (r : List ℕ) where
   encode-decode-buffer n b = one r n b 0 (omega arith) (one r n b 1 (omega arith) (one r n b 2 (omega arith) (some r n b 3 5 (last r n b bufferData capacity refl))))
 
   encode-decode-task : length r ≡ taskWidth → AllBytes r → encodeTask (decodeTask r) ≡ r
-  unfolding decodeTask encodeTask
+  unfolding decodeTask
   encode-decode-task n b =
-      one r n b 0 (omega arith) (one r n b 1 (omega arith) (one r n b 2 (omega arith) (one r n b 3 (omega arith) (one r n b 4 (omega arith) (one r n b 5 (omega arith)
+      task-fields (decodeTask r)
+      ∙ one r n b 0 (omega arith) (one r n b 1 (omega arith) (one r n b 2 (omega arith) (one r n b 3 (omega arith) (one r n b 4 (omega arith) (one r n b 5 (omega arith)
       (some r n b 6 2 (number r n b 8 4 (omega arith) (some r n b 12 4 (last r n b taskData capacity refl)))))))))
 
 -- ---- A table from its records

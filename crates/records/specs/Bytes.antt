@@ -33,7 +33,7 @@ decodeQueue r =
 unfoldable pub encodeQueue : Queue → List ℕ
 encodeQueue q =
     q .live ∷ q .attributes ∷ q .limit ∷ q .maxSize ∷ toLittleEndian 2 (q .generation)
-    ++ (q .pending ∷ q .waiters ∷ toLittleEndian 4 (q .name) ++ q .reserved)
+    ++ (q .pending ∷ q .waiters ∷ toLittleEndian 4 (q .name)) ++ q .reserved
 
 unfoldable pub decodeBuffer : List ℕ → Buffer
 decodeBuffer r =
@@ -64,7 +64,7 @@ decodeTask r =
 unfoldable pub encodeTask : Task → List ℕ
 encodeTask w =
     w .state ∷ w .position .queue ∷ w .position .rank ∷ w .priority ∷ w .status ∷ w .messageLength
-    ∷ w .reserved ++ (toLittleEndian 4 (w .ticksLeft) ++ (w .reservedAfter ++ w .receiveBuffer))
+    ∷ w .reserved ++ toLittleEndian 4 (w .ticksLeft) ++ w .reservedAfter ++ w .receiveBuffer
 
 -- ---- Tables
 

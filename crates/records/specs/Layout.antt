@@ -58,6 +58,10 @@ taskWidth = taskData + capacity
 abbrev pub tasksSize : ℕ
 tasksSize = taskCount * taskWidth
 
+-- "Takes the lowest free slot of the caller's share with generation below 65,535"
+abbrev pub lastGeneration : ℕ
+lastGeneration = 65535
+
 -- "An id is generation x 16 + slot."
 unfoldable pub idOf : (generation slot : ℕ) → ℕ
 idOf generation slot = generation * slotCount + slot

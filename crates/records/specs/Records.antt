@@ -71,6 +71,10 @@ maxSizeAllowed n = within 1 capacity n
 unfoldable pub sizeAllowed : Queue → (size : ℕ) → Bool
 sizeAllowed q size = within 1 (q .maxSize) size
 
+-- the queue holds as many messages as its limit says
+abbrev pub isFull : Queue → Bool
+isFull q = leb (q .limit) (q .pending)
+
 -- the message in a buffer
 abbrev pub messageIn : Buffer → List ℕ
 messageIn m = take (m .messageLength) (m .bytes)

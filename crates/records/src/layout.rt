@@ -25,6 +25,16 @@ pub const TASKS_SIZE: usize = TASK_COUNT * TASK_WIDTH;
 
 pub const SHARE_COUNT: usize = 4;
 
+// "Share p (0 to 3) owns slots 4p to 4p+3, buffers 16p to 16p+15, tasks 8p to 8p+7."
+pub const SLOTS_PER_SHARE: usize = 4;
+
+pub const BUFFERS_PER_SHARE: usize = 16;
+
+pub const TASKS_PER_SHARE: usize = 8;
+
+// A slot with this generation is spent.
+pub const LAST_GENERATION: u16 = 65535;
+
 // Where a field stands in its record: the position (queue, then rank), a message's length, its bytes.
 pub const BUFFER_POSITION: usize = 0;
 

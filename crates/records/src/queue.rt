@@ -4,7 +4,7 @@ ghost use Prim.Native.Nat.{_<_};
 ghost use lib.ListN.{length};
 ghost use Rattle.ranks.specs.Lists.{within};
 ghost use Rattle.records.specs.Layout.{slotCount, queueWidth, queuesSize};
-ghost use Rattle.records.specs.Records.{isLive, hasPriority, isOpen, attributesAllowed, limitAllowed, maxSizeAllowed, sizeAllowed};
+ghost use Rattle.records.specs.Records.{isLive, hasPriority, isOpen, attributesAllowed, limitAllowed, maxSizeAllowed, sizeAllowed, isFull};
 ghost use Rattle.records.specs.Bytes.{decodeQueue, encodeQueue, decodeQueues, decodeQueueAt};
 ghost use Rattle.records.specs.Changes.{changeAt, withPending, withWaiters, withGeneration, liveWith, freed};
 use crate::bytes::bytes_of_u16;
@@ -54,6 +54,12 @@ impl QueueRecord {
         ensures { λ r. ⌜ r ≡ sizeAllowed self size ⌝ }
     {
         is_within(1, self.maxSize as usize, size)
+    }
+
+    pub fn is_full(self) -> bool
+        ensures { λ r. ⌜ r ≡ isFull self ⌝ }
+    {
+        self.limit <= self.pending
     }
 
     pub fn with_pending(mut self, n: u8) -> Self

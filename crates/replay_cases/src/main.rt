@@ -30,20 +30,20 @@ use crate::image::POOL_PLACE;
 use crate::image::TASKS_PLACE;
 use calllog::layout::ANSWER_WIDTH;
 use calllog::layout::RECORD_WIDTH;
+use fresh_tables::start::fresh;
 use libc::STDOUT_FILENO;
 use logio::agreeing::fronts_agreeing;
 use logio::block::ANSWERS;
 use logio::block::BLOCK;
 use logio::block::replay_block;
-use logio::fresh::fresh;
-use logio::reading::Input;
-use logio::reading::fill;
 use records::bytes::copy_into;
 use records::bytes::read_u16;
 use records::layout::POOL_SIZE;
 use records::layout::QUEUES_SIZE;
 use records::layout::TASKS_SIZE;
 use std::num::wrapping_add_u64;
+use streams::reading::Input;
+use streams::reading::fill;
 
 // ---- Text on standard output
 

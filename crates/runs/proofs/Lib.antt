@@ -1,4 +1,3 @@
-pub mod FreshTables
 pub mod LogDemands
 pub mod ReplayedRuns
 pub mod Replays

@@ -32,7 +32,8 @@ use Rattle.calllog.specs.declared.call.Directive.the-variants.{Create}
 use Rattle.calllog.specs.declared.call.Call.the-variants.{By}
 use Rattle.calllog.specs.declared.call.LogResult.{LogResult}
 use Rattle.calllog.specs.declared.call.LogResult.the-variants.{WellFormed}
-use Rattle.runs.specs.Replay.{directiveOf, callOf, outcomeFor, answerRecord, replayFound, replayRecord, replayRecords, recordsOf, replayed}
+use Rattle.logged_calls.specs.LoggedCall.{directiveOf, callOf, outcomeFor, answerRecord}
+use Rattle.runs.specs.Replay.{replayFound, replayRecord, replayRecords, recordsOf, replayed}
 use Rattle.runs.specs.ReplayedRun.{callsIn, eventsOf, OfBytes}
 use Rattle.runs.specs.LogDemands.{LogsNoninterference, createLog, ReplayDemands}
 use Rattle.runs.proofs.ReplayedRuns.{log-of-bytes, calls-in-range, replay-run}

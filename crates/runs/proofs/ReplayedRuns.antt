@@ -23,11 +23,12 @@ use Rattle.theorems.specs.SoundTables.{SoundTables}
 use Rattle.theorems.specs.Demands.{AnswerInRange}
 use Rattle.theorems.proofs.Demand1.{demand-1}
 use Rattle.theorems.proofs.Demand2.{demand-2}
-use Rattle.manager.proofs.Outcomes.{Slice}
+use Rattle.records.proofs.ByteLists.{Slice}
 use Rattle.calllog.specs.CallLog.{readRecord, answerBytes, recordWidth, messageOf, answerWidth, recordCount}
 use Rattle.calllog.specs.declared.call.LogResult.{LogResult}
 use Rattle.calllog.specs.declared.call.LogResult.the-variants.{WellFormed, Malformed, End}
-use Rattle.runs.specs.Replay.{callOf, outcomeFor, answerRecord, Replayed, replayFound, replayRecord, replayRecords, recordsOf, replayed}
+use Rattle.logged_calls.specs.LoggedCall.{callOf, outcomeFor, answerRecord}
+use Rattle.runs.specs.Replay.{Replayed, replayFound, replayRecord, replayRecords, recordsOf, replayed}
 use Rattle.runs.specs.ReplayedRun.{callSaid, callsSaid, writtenFor, written, answerIn, eventsFrom, OfBytes, ReplayIsRun}
 use Rattle.runs.proofs.TableStatus.{InRange, record-in-range}
 

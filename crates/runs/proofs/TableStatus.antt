@@ -26,14 +26,15 @@ use Rattle.specification.specs.Step.{step}
 use Rattle.theorems.specs.SoundTables.{SoundTables}
 use Rattle.theorems.proofs.Demand2.{demand-2}
 use Rattle.common_refusals.specs.Tested.{tableRefusals}
-use Rattle.manager.proofs.Outcomes.{Slice}
+use Rattle.records.proofs.ByteLists.{Slice}
 use Rattle.common_refusals.proofs.FirstTests.{table-refused, table-passed}
 use Rattle.manager.proofs.Calls.{refused-call, tick-refused}
 use Rattle.calllog.specs.CallLog.{recordWidth, operation, caller, option, size, id, ticks, limit, maxSize, _of_, rowOf, keepsRow, callWith, readRecord, messagePlace, messageOf}
 use Rattle.calllog.specs.CallLog
 use Rattle.calllog.specs.declared.call.LogResult.{LogResult}
 use Rattle.calllog.specs.declared.call.LogResult.the-variants.{WellFormed, Malformed, End}
-use Rattle.runs.specs.Replay.{directiveOf, callOf, outcomeFor, replayFound, replayRecord}
+use Rattle.logged_calls.specs.LoggedCall.{directiveOf, callOf, outcomeFor}
+use Rattle.runs.specs.Replay.{replayFound, replayRecord}
 
 -- ---- Bytes, and the numbers in them
 

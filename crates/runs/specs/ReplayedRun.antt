@@ -10,7 +10,8 @@ use Rattle.specification.specs.Run.{Event, run}
 use Rattle.calllog.specs.CallLog.{readRecord, messageOf, answerWidth}
 use Rattle.calllog.specs.declared.call.LogResult.{LogResult}
 use Rattle.calllog.specs.declared.call.LogResult.the-variants.{WellFormed, Malformed, End}
-use Rattle.runs.specs.Replay.{callOf, answerRecord, recordsOf, replayed}
+use Rattle.logged_calls.specs.LoggedCall.{callOf, answerRecord}
+use Rattle.runs.specs.Replay.{recordsOf, replayed}
 
 -- ---- The calls of a log
 

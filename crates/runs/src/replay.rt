@@ -6,14 +6,14 @@ ghost use Rattle.records.specs.Bytes.{tables};
 ghost use Rattle.common_refusals.specs.Tested.{Tested};
 ghost use Rattle.calllog.specs.CallLog.{answerWidth, recordCount};
 ghost use Rattle.runs.specs.Replay.{NextRecord, replayFound, replayedAt, replayed, replayedFront, replayedInto};
-use crate::answer::answer;
-use crate::answer::answer_record;
 use calllog::call::LogResult;
 use calllog::decode::message_field;
 use calllog::decode::record_count;
 use calllog::layout::ANSWER_WIDTH;
 use calllog::reader::read_at;
 use common_refusals::table_refusal;
+use logged_calls::answer::answer;
+use logged_calls::answer::answer_record;
 use records::bytes::copy_into;
 use records::status::Verdict;
 

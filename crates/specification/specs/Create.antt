@@ -2,7 +2,7 @@
 use Rattle.ranks.specs.Prelude.{ℕ, suc, _+_, Bool, not, List, [], _∷_, eqb, leb, ltb}
 use Rattle.ranks.specs.Lists.{allTrue, findIndex}
 use Rattle.records.specs.Split.{shareOfSlot, shareLimit}
-use Rattle.records.specs.Layout.{slotCount, idOf}
+use Rattle.records.specs.Layout.{slotCount, idOf, lastGeneration}
 use Rattle.records.specs.Records.{Queue, State, limitAllowed, maxSizeAllowed, queueAt}
 use Rattle.records.specs.Changes.{changeAt, withGeneration, liveWith}
 use Rattle.records.specs.Status.{SUCCESSFUL, INVALID-NAME, INVALID-SIZE, INVALID-NUMBER, TOO-MANY, UNSATISFIED, INVALID-OPTION}
@@ -11,7 +11,7 @@ use Rattle.specification.specs.Sound.{limits}
 
 -- slot `i` is free, of the share, and not spent
 abbrev pub isFreeSlot : (share i : ℕ) → Queue → Bool
-isFreeSlot share i q = allTrue (eqb (q .live) 0 ∷ eqb (shareOfSlot i) share ∷ ltb (q .generation) 65535 ∷ [])
+isFreeSlot share i q = allTrue (eqb (q .live) 0 ∷ eqb (shareOfSlot i) share ∷ ltb (q .generation) lastGeneration ∷ [])
 
 -- "Takes the lowest free slot of the caller's share with generation below 65,535"; 16 if there is none
 unfoldable pub freeSlot : State → (share : ℕ) → ℕ

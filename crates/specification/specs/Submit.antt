@@ -5,7 +5,7 @@ use Rattle.ranks.specs.Lists.{if_then_else_, mapWithIndex, findIndex, mask}
 use Rattle.ranks.specs.Position.{positionAt}
 use Rattle.records.specs.Split.{shareOfSlot, shareOfBuffer}
 use Rattle.records.specs.Layout.{bufferCount, taskCount}
-use Rattle.records.specs.Records.{Queue, Buffer, State, sizeAllowed, queueAt}
+use Rattle.records.specs.Records.{Queue, Buffer, State, sizeAllowed, isFull, queueAt}
 use Rattle.records.specs.Changes.{changeAt, withPending, messageBuffer, withMessage, insertBuffer}
 use Rattle.records.specs.Status.{SUCCESSFUL, INVALID-ID, INVALID-SIZE, TOO-MANY, NO-BUFFER}
 use Rattle.specification.specs.Answer.{Outcome, outcome, Refusal, _⇒_}
@@ -14,9 +14,6 @@ use Rattle.specification.specs.Lookup.{usableQueue, firstWaiter, hasWait
 -- "a message's size is the length of the bytes lent"
 abbrev pub badSize : State → (slot : ℕ) (message : List ℕ) → Bool
 badSize s slot message = not (sizeAllowed (queueAt s slot) (length message))
-
-abbrev pub isFull : Queue → Bool
-isFull q = leb (q .limit) (q .pending)
 
 -- buffer `b` is free and of the share
 abbrev pub isFreeOf : (share b : ℕ) → Buffer → Bool

@@ -10,7 +10,7 @@ use borrow.Author.Tests.{ltb-true}
 use Rattle.ranks.specs.Lists.{if_then_else_, mapWithIndex, allTrue, numbersFrom}
 use Rattle.ranks.specs.Position.{Position, inQueue}
 use Rattle.records.specs.Split.{shareOfTask}
-use Rattle.records.specs.Layout.{slotOf, capacity, slotCount, bufferCount, taskCount, byteValues}
+use Rattle.records.specs.Layout.{slotOf, capacity, slotCount, bufferCount, taskCount, byteValues, lastGeneration}
 use Rattle.records.specs.Records.{Queue, Buffer, Task, State, queueAt, bufferAt, taskAt, freeQueue, freeBuffer, freshTask}
 use Rattle.records.specs.Changes.{atIndex, overwriteFront, moveBuffer, messageBuffer, moveTask, readyWith, withMessage}
 use Rattle.records.specs.InRange.{AllBytes}
@@ -190,7 +190,7 @@ module _ (s : State) (z : Sized s) (f : Encodable s) where
         tasks = f .tasks;
       }
 
-  create-fits : (slot name limit maxSize attributes : ℕ) → queueAt s slot .generation < 65535 → name < 4294967296
+  create-fits : (slot name limit maxSize attributes : ℕ) → queueAt s slot .generation < lastGeneration → name < 4294967296
       → Encodable (Create.effect s slot name limit maxSize attributes .after)
   unfolding Create.effect
   create-fits slot name limit maxSize attributes h n =

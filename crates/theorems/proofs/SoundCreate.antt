@@ -10,7 +10,7 @@ use lib.Dec.{eqb, ltb}
 use lib.ListN.{length, getD}
 use borrow.Author.Tests.{eqb-true, eq-eqb, ne-eqb, ltb-true}
 use Rattle.ranks.specs.Lists.{if_then_else_, mapWithIndex, allTrue, allZero}
-use Rattle.records.specs.Layout.{largestLimit, capacity, slotCount, taskCount}
+use Rattle.records.specs.Layout.{largestLimit, capacity, slotCount, taskCount, lastGeneration}
 use Rattle.records.specs.Split.{shareCount, shareOfSlot, shareLimit}
 use Rattle.records.specs.Records.{Queue, State, queueAt, taskAt, freeQueue, hasPriority, isLive}
 use Rattle.specification.specs.Sound.{limits, soundQueue, taskRules}
@@ -131,7 +131,7 @@ delete-sound s g slot slot< =
 
 -- the slot found is free and of the share
 pub slot-found : (s : State) → Sized s → (p : ℕ) → freeSlot s p < slotCount
-    → (queueAt s (freeSlot s p) .live ≡ 0) × (shareOfSlot (freeSlot s p) ≡ p) × (queueAt s (freeSlot s p) .generation < 65535)
+    → (queueAt s (freeSlot s p) .live ≡ 0) × (shareOfSlot (freeSlot s p) ≡ p) × (queueAt s (freeSlot s p) .generation < lastGeneration)
 unfolding freeSlot
 slot-found s z p h =
     let lt : freeSlot s p < length (s .queues) = omega (arith, z .queues) in
@@ -140,7 +140,7 @@ slot-found s z p h =
     (eqb-true _ _ a, eqb-true _ _ b, ltb-true _ _ c)
   where
     F : ℕ → Queue → Bool
-    F i q = allTrue (eqb (q .live) 0 ∷ eqb (shareOfSlot i) p ∷ ltb (q .generation) 65535 ∷ [])
+    F i q = allTrue (eqb (q .live) 0 ∷ eqb (shareOfSlot i) p ∷ ltb (q .generation) lastGeneration ∷ [])
 
 module _ (s : State) (g : SoundFacts s) (slot name limit maxSize attributes : ℕ) (slot< : slot < slotCount) (free : queueAt s slot .live ≡ 0)
     (name≥ : 1 ≤ name) (attributes≤ : attributes ≤ 3) (limit≥ : 1 ≤ limit) (limit≤ : limit ≤ largestLimit) (size≥ : 1 ≤ maxSize) (size≤ : maxSize ≤ capacity)

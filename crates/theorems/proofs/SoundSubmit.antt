@@ -11,13 +11,13 @@ use borrow.Author.Tests.{eqb-true, ltb-true, ltb-false, leb-false, not-false}
 use Rattle.ranks.specs.Lists.{if_then_else_, mapWithIndex, allTrue}
 use Rattle.records.specs.Split.{shareOfSlot, shareOfBuffer}
 use Rattle.records.specs.Layout.{slotOf, capacity, slotCount, taskCount, bufferCount}
-use Rattle.records.specs.Records.{State, sizeAllowed, queueAt, bufferAt, taskAt, freeBuffer, freshTask}
+use Rattle.records.specs.Records.{State, sizeAllowed, isFull, queueAt, bufferAt, taskAt, freeBuffer, freshTask}
 use Rattle.records.specs.Changes.{overwriteFront, withWait, withResult, readyWith, withMessage}
 use Rattle.records.specs.Status.{SUCCESSFUL, TIMEOUT, OBJECT-WAS-DELETED}
 use Rattle.ranks.specs.Position.{noQueue}
 use Rattle.specification.specs.Sound.{taskRules}
 use Rattle.specification.specs.Lookup.{usable, firstWaiter, hasWaiter, leave}
-use Rattle.specification.specs.Submit.{isFull, isFreeOf, freeBufferOf, refusals, delivered, enqueued, effect}
+use Rattle.specification.specs.Submit.{isFreeOf, freeBufferOf, refusals, delivered, enqueued, effect}
 use Rattle.ranks.proofs.Lists.{at-mapped, length-mapped, first-true, holds}
 use Rattle.ranks.proofs.Tests.{both}
 use Rattle.ranks.proofs.Found.{found-stands, none-first}

@@ -1,6 +1,7 @@
 // Masks of tasks.
 ghost use mathlib.Core.Path.{_≡_};
 ghost use Prim.Native.Nat.{_*_, _<_, _+_, _^_};
+ghost use lib.Count.{ones};
 ghost use Rattle.ranks.specs.Lists.{if_then_else_};
 ghost use Rattle.records.specs.Layout.{taskCount};
 
@@ -10,6 +11,13 @@ pub fn task_bit(t: usize) -> u32
     ensures { λ r. ⌜ r ≡ 2 ^ t ⌝ }
 {
     1 << t
+}
+
+// How many tasks a mask has: its ones.
+pub fn tasks_in(m: u32) -> u32
+    ensures { λ r. ⌜ r ≡ ones m ⌝ }
+{
+    u32::count_ones(m)
 }
 
 // A mask with one bit more, at the low end.

@@ -3,8 +3,8 @@ use borrow.Author.Needs.{needs}
 use mathlib.Core.Path.{sym, subst}
 use lib.ListN.{take}
 use lib.Seq.{length-take-le}
-use Rattle.logio.specs.declared.writing.Output.{Output}
-use Rattle.logio.specs.Writing.{WritesAnswers}
+use Rattle.streams.specs.declared.writing.Output.{Output}
+use Rattle.streams.specs.Writing.{WritesAnswers}
 use Rattle.logio.proofs.input.finish.Statement.{statement}
 use Rattle.logio.proofs.input.finish.Tie as tie
 

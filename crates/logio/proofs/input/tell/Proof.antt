@@ -2,7 +2,7 @@
 use borrow.Author.Needs.{needs}
 use mathlib.Core.Path.{sym, subst}
 use Rattle.logio.specs.Turns.{Tells, nothing, input, output, endless}
-use Rattle.logio.specs.Writing.{inputName, outputName, lengthName}
+use Rattle.streams.specs.Writing.{inputName, outputName, lengthName}
 use Rattle.logio.proofs.input.tell.Statement.{statement}
 use Rattle.logio.proofs.input.tell.Tie as tie
 

@@ -56,18 +56,18 @@ loop-again c =
     (λ i. c .before .before .slice-known3 .given i .fits) (λ i. c .slice-known4 .given i .fits) (done .ensures .1 (a .pool .now)))
 
 same-length : tie.Need-same-length Inv-loop μ-loop
-same-length c = c .before .loop .inv .queuesSize
+same-length c = c .before .before .loop .inv .queuesSize
 
 same-length-2 : tie.Need-same-length-2 Inv-loop μ-loop
-same-length-2 c = c .before .loop .inv .tasksSize
+same-length-2 c = c .before .before .loop .inv .tasksSize
 
 returns : tie.Need-returns Inv-loop μ-loop
 returns c =
-    let v = c .before .loop in
-    let s = c .before .before .before .before .before .before .before in
+    let v = c .before .before .loop in
+    let s = entry (c .before .before .before) in
     let a = s .args in
-    let woken = c .before .before .expired-mask in
-    tick-done (a .queues .now) (a .pool .now) (a .tasks .now) (v .queues) (v .tasks) (v .t) (v .inv) (omega arith) (s .pre .0) (λ i. c .before .before .before .before .before .shared-slice-known .given i .fits) (woken .result) (woken .ensures)
+    let woken = c .before .before .before .expired-mask in
+    tick-done (a .queues .now) (a .pool .now) (a .tasks .now) (v .queues) (v .tasks) (v .t) (v .inv) (omega arith) (s .pre .0) (λ i. c .before .before .before .before .before .before .shared-slice-known .given i .fits) (c .tasks-in .result) (woken .result) (c .tasks-in .ensures) (woken .ensures)
 
 pub tick-spec : {M : Type 1} → statement M
 tick-spec =
@@ -80,6 +80,7 @@ tick-spec =
     tick-task-requires
     (search needs)
     loop-again
+    (search needs)
     same-length
     same-length-2
     returns)

@@ -26,15 +26,15 @@ returns-2 c = rw (is-usable (c .before .before), sym (c .before .size-allowed .e
 
 returns-3 : tie.Need-returns-3
 unfolding firstStatus
-returns-3 c = let p = c .before .before in rw (is-usable (p .before .before), allowed p, c .if3 .taken)
+returns-3 c = let p = c .before .before in rw (is-usable (p .before .before), allowed p, ← c .before .is-full .ensures, c .if3 .taken)
 
 returns-4 : tie.Need-returns-4
 unfolding firstStatus
-returns-4 c = let p = c .before .before .before in rw (is-usable (p .before .before), allowed p, c .before .if3 .left, c .if4 .taken)
+returns-4 c = let p = c .before .before .before in rw (is-usable (p .before .before), allowed p, ← c .before .before .is-full .ensures, c .before .if3 .left, c .if4 .taken)
 
 returns-5 : tie.Need-returns-5
 unfolding firstStatus
-returns-5 c = let p = c .before .before .before in rw (is-usable (p .before .before), allowed p, c .before .if3 .left, c .if4 .left)
+returns-5 c = let p = c .before .before .before in rw (is-usable (p .before .before), allowed p, ← c .before .before .is-full .ensures, c .before .if3 .left, c .if4 .left)
 
 pub refusal-spec : {M : Type 1} → statement M
-refusal-spec = tie.close (tie.spec (search needs) returns (search needs) returns-2 returns-3 returns-4 returns-5)
+refusal-spec = tie.close (tie.spec (search needs) returns (search needs) returns-2 (search needs) returns-3 returns-4 returns-5)

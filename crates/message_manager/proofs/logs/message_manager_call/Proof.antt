@@ -4,7 +4,7 @@ use mathlib.Core.Path.{ap, ap₂, _∙_}
 use Rattle.records.specs.Bytes.{Tables, tables}
 use Rattle.specification.specs.Answer.{Outcome}
 use Rattle.calllog.specs.CallLog.{readRecord, messageOf}
-use Rattle.runs.specs.Replay.{outcomeFor}
+use Rattle.logged_calls.specs.LoggedCall.{outcomeFor}
 use Rattle.message_manager.specs.Interface.{answeredInto}
 use Rattle.message_manager.proofs.Laws.{another-length, answered}
 use borrow.Author.Needs.{needs}

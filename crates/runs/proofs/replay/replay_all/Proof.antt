@@ -9,7 +9,7 @@ use Rattle.records.specs.Bytes.{tables}
 use Rattle.records.specs.declared.status.Verdict.{Verdict}
 use Rattle.specification.specs.Answer.{firstStatus}
 use Rattle.common_refusals.specs.Tested.{tableRefusals, Tested}
-use Rattle.manager.proofs.Outcomes.{Slice}
+use Rattle.records.proofs.ByteLists.{Slice}
 use Rattle.calllog.specs.CallLog.{recordWidth, answerWidth}
 use Rattle.runs.specs.Replay.{ReplayedAt, replayedAt}
 use Rattle.runs.proofs.Replays.{ReplayedTo, none-replayed, room-for-one, one-more-replayed, all-replayed, next-after}

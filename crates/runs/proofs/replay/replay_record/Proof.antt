@@ -3,7 +3,8 @@ use mathlib.Core.Path.{ap, _∙_}
 use Rattle.ranks.specs.Table.{byte}
 use Rattle.records.specs.Bytes.{Tables, tables}
 use Rattle.specification.specs.Answer.{Outcome}
-use Rattle.runs.specs.Replay.{outcomeFor, answerRecord, Replayed, replayFound}
+use Rattle.logged_calls.specs.LoggedCall.{outcomeFor, answerRecord}
+use Rattle.runs.specs.Replay.{Replayed, replayFound}
 use borrow.Author.Needs.{needs}
 use Rattle.runs.proofs.replay.replay_record.Statement.{statement}
 use Rattle.runs.proofs.replay.replay_record.Tie as tie

@@ -14,8 +14,8 @@ use Rattle.ranks.specs.Lists.{if_then_else_, allTrue, allZero}
 use Rattle.ranks.specs.Table.{slice, byte}
 use Rattle.ranks.proofs.Lists.{all-cons, all-nil, zeros-cons, zeros-nil}
 use Rattle.records.specs.Layout.{capacity}
-use Rattle.records.specs.Bytes.{fromLittleEndian}
-use Rattle.records.proofs.ZeroBytes.{zero-number}
+use Rattle.bytes.specs.LittleEndian.{fromLittleEndian}
+use Rattle.bytes.proofs.ZeroBytes.{zero-number}
 use Rattle.calllog.specs.declared.call.LogResult.the-variants.{Malformed, End}
 use Rattle.calllog.specs.CallLog.{messagePlace, recordWidth, Field, operation, caller, option, size, id, ticks, limit, maxSize, message, bytesOf, messageOf, _of_, rows, rowOf, names, bitsIn, bitsOf, keepsRow, callWith, callIn, readRecord, readAt, placeAfter}
 
@@ -113,18 +113,18 @@ Another o =
 
 another : (o caller option size id ticks limit maxSize : ℕ) → Another o → callWith o caller option size id ticks limit maxSize ≡ Malformed
 unfolding callWith
-another o caller option size id ticks limit maxSize n =
+another o caller option size id ticks limit maxSize ((((((((((_, not-1), not-2), not-3), not-4), not-5), not-6), not-7), not-8), not-9), not-10) =
     simp (
-      ne-eqb o 1 (n .0 .0 .0 .0 .0 .0 .0 .0 .0 .1),
-      ne-eqb o 2 (n .0 .0 .0 .0 .0 .0 .0 .0 .1),
-      ne-eqb o 3 (n .0 .0 .0 .0 .0 .0 .0 .1),
-      ne-eqb o 4 (n .0 .0 .0 .0 .0 .0 .1),
-      ne-eqb o 5 (n .0 .0 .0 .0 .0 .1),
-      ne-eqb o 6 (n .0 .0 .0 .0 .1),
-      ne-eqb o 7 (n .0 .0 .0 .1),
-      ne-eqb o 8 (n .0 .0 .1),
-      ne-eqb o 9 (n .0 .1),
-      ne-eqb o 10 (n .1),
+      ne-eqb o 1 not-1,
+      ne-eqb o 2 not-2,
+      ne-eqb o 3 not-3,
+      ne-eqb o 4 not-4,
+      ne-eqb o 5 not-5,
+      ne-eqb o 6 not-6,
+      ne-eqb o 7 not-7,
+      ne-eqb o 8 not-8,
+      ne-eqb o 9 not-9,
+      ne-eqb o 10 not-10,
     )
 
 pub call-other : (r : List ℕ) → Another (byte 0 r) → callIn r ≡ Malformed

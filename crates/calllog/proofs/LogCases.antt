@@ -3,7 +3,7 @@ use mathlib.Core.Path.{_≡_, refl}
 use mathlib.Core.List.{map}
 use Rattle.ranks.specs.Lists.{allTrue, allZero}
 use Rattle.ranks.specs.Table.{slice}
-use Rattle.records.specs.Bytes.{fromLittleEndian, toLittleEndian}
+use Rattle.bytes.specs.LittleEndian.{fromLittleEndian, toLittleEndian}
 use Rattle.calllog.specs.CallLog.{rows, rowOf, names, keepsRow, callWith, callIn, readRecord, readAt, placeAfter, readingAt, answerBytes}
 use Rattle.calllog.specs.LogCases.{callRecordCases, exampleLog, placeCases, createAnswer, LogCasesHold}
 

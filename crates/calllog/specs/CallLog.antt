@@ -3,7 +3,7 @@ use Rattle.ranks.specs.Prelude.{ℕ, _+_, _-_, _*_, _/_, min, Bool, false, _&&_
 use Rattle.ranks.specs.Lists.{if_then_else_, allTrue, allZero}
 use Rattle.ranks.specs.Table.{slice}
 use Rattle.records.specs.Layout.{capacity}
-use Rattle.records.specs.Bytes.{fromLittleEndian, toLittleEndian}
+use Rattle.bytes.specs.LittleEndian.{fromLittleEndian, toLittleEndian}
 use Rattle.calllog.specs.declared.call.Directive.the-variants.{Create, Ident, Delete, Send, Urgent, Broadcast, Receive, Pending, Flush}
 use Rattle.calllog.specs.declared.call.Call.the-variants.{By, Tick}
 use Rattle.calllog.specs.declared.call.LogResult.{LogResult}

@@ -2,7 +2,7 @@
 ghost use mathlib.Core.Path.{_≡_};
 ghost use Rattle.calllog.specs.CallLog.{answerBytes};
 use crate::layout::ANSWER_WIDTH;
-use records::bytes::bytes_of_u32;
+use bytes::numbers::bytes_of_u32;
 
 // "status, first byte of the call, 0, 0, value, mask, four zeros"
 pub fn answer_bytes(status: u8, firstByte: u8, value: u32, mask: u32) -> [u8; ANSWER_WIDTH]

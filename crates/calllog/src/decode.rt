@@ -17,10 +17,10 @@ use crate::rows::OPTION;
 use crate::rows::SIZE;
 use crate::rows::TICKS;
 use crate::rows::row_of;
-use records::bytes::read_u32;
-use records::bytes::wide;
+use bytes::numbers::read_u32;
+use bytes::numbers::wide;
+use bytes::zeros::zeros_from;
 use records::layout::CAPACITY;
-use records::zeros::zeros_from;
 
 // The message field of a record, which a short part may not have.
 pub fn message_field(part: &[u8]) -> &[u8]

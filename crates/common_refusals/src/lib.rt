@@ -11,7 +11,6 @@ use records::layout::TASK_COUNT;
 use records::layout::TASKS_SIZE;
 use records::status::RefusalStatus;
 use records::status::Verdict;
-use records::task::WAITING_STATE;
 use records::task::read_head;
 use soundness::search::is_sound;
 
@@ -30,7 +29,7 @@ fn bad_caller(queues: &[u8], pool: &[u8], tasks: &[u8], caller: u32) -> bool
         return true;
     }
     let h = read_head(tasks, caller as usize);
-    h.state == WAITING_STATE
+    h.is_waiting()
 }
 
 // The first test of the tables that they fail, 16 or 10, if any.

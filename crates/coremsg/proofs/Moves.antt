@@ -16,7 +16,7 @@ use Rattle.records.specs.Changes.{atIndex, waitingAt, insertTask}
 use Rattle.records.specs.TaskHeads.{headOf, withHead, waitingHead}
 use Rattle.records.specs.declared.task.TaskHead.{TaskHead}
 use Rattle.records.proofs.Access.{queue-at, task-at}
-use Rattle.records.proofs.Writing.{slice-lent}
+use Rattle.bytes.proofs.NumberBytes.{slice-lent}
 use Rattle.specification.specs.Receive.{rankFor, waitRank}
 use Rattle.threadq.proofs.TaskHead.{head-written}
 use Rattle.coremsg.proofs.Changed.{task-stepped}

@@ -21,7 +21,7 @@ use threadq::waiters::ready_all;
 use threadq::waiters::waiters_mask;
 
 // The messages of the queue in the slot are removed. How many they were.
-pub fn flush(queues: &mut [u8], pool: &mut [u8], slot: usize) -> u8
+pub fn remove_messages(queues: &mut [u8], pool: &mut [u8], slot: usize) -> u8
     requires { ⌜ (slot < slotCount) × ((length (now queues) ≡ queuesSize) × (length (now pool) ≡ poolSize)) ⌝ }
     ensures { λ r. ⌜ (r ≡ decodeQueueAt slot (now (queues .entry)) .pending) × ((tasks : List ℕ) → decode (tables (now (queues .exit)) (now (pool .exit)) tasks)
         ≡ Flush.effect (decode (tables (now (queues .entry)) (now (pool .entry)) tasks)) slot .after) ⌝ }

@@ -25,7 +25,7 @@ fn belongs_to(pool: &[u8], b: usize, slot: usize) -> bool
     requires { ⌜ (b < bufferCount) × ((slot < slotCount) × (length (now pool) ≡ poolSize)) ⌝ }
     ensures { λ r. ⌜ r ≡ inQueue slot (decodeBufferAt b (now (pool .entry)) .position) ⌝ }
 {
-    pool[b * BUFFER_WIDTH] == (slot + 1) as u8
+    pool[b * BUFFER_WIDTH + BUFFER_POSITION] == (slot + 1) as u8
 }
 
 // Buffer b is zeroed where it belongs to the queue in the slot.
@@ -55,7 +55,7 @@ fn is_free(pool: &[u8], share: usize, b: usize) -> bool
     requires { ⌜ (length (now pool) ≡ poolSize) × ((share < shareCount) × (b < bufferCount)) ⌝ }
     ensures { λ r. ⌜ r ≡ isFreeOf share b (decodeBufferAt b (now (pool .entry))) ⌝ }
 {
-    (pool[b * BUFFER_WIDTH] == 0) & owns_buffer(share, b)
+    (pool[b * BUFFER_WIDTH + BUFFER_POSITION] == 0) & owns_buffer(share, b)
 }
 
 // The lowest such buffer, or the number of buffers if there is none. No buffer before the first of the share is one.

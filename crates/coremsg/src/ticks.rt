@@ -12,7 +12,6 @@ use crate::steps::leave;
 use records::layout::TASK_COUNT;
 use records::status::TIMEOUT;
 use records::task::TaskHead;
-use records::task::WAITING_STATE;
 use records::task::read_head;
 use records::task::write_head;
 use threadq::masks::with_bit;
@@ -21,14 +20,14 @@ use threadq::masks::with_bit;
 fn expires(h: TaskHead) -> bool
     ensures { λ r. ⌜ r ≡ isLastTick (h .state) (h .ticksLeft) ⌝ }
 {
-    (h.state == WAITING_STATE) & (h.ticksLeft == 1)
+    h.is_waiting() & (h.ticksLeft == 1)
 }
 
 // It waits, and not forever.
 fn is_timed(h: TaskHead) -> bool
     ensures { λ r. ⌜ r ≡ isTicking (h .state) (h .ticksLeft) ⌝ }
 {
-    (h.state == WAITING_STATE) & (1 <= h.ticksLeft)
+    h.is_waiting() & (1 <= h.ticksLeft)
 }
 
 // The mask of the tasks whose last tick it is.

@@ -12,7 +12,8 @@ use Rattle.ranks.specs.Lists.{within, every}
 use Rattle.ranks.proofs.Tests.{both}
 use Rattle.ranks.specs.Table.{slice, records, spliced}
 use Rattle.records.specs.Records.{freeQueue, freeBuffer, freshTasks, fresh}
-use Rattle.records.specs.Bytes.{tables, fromLittleEndian, decodeQueue, decodeBuffer, decodeQueues, decodePool, decodeTasks, decode, encode, rightLengths}
+use Rattle.bytes.specs.LittleEndian.{fromLittleEndian}
+use Rattle.records.specs.Bytes.{tables, decodeQueue, decodeBuffer, decodeQueues, decodePool, decodeTasks, decode, encode, rightLengths}
 use Rattle.records.specs.Layout.{slotCount, queuesSize, bufferCount, poolSize, taskCount}
 use Rattle.records.proofs.ByteLists.{Slice, bytes-lent, bytes-zeros}
 use Rattle.records.proofs.EncodeDecode.{lengths, encode-decode}

@@ -5,6 +5,7 @@ ghost use Rattle.records.specs.Bytes.{tables};
 ghost use Rattle.common_refusals.specs.Tested.{Callable};
 ghost use Rattle.manager.specs.Outcomes.{outcomeOf, accepted};
 ghost use Rattle.logged_calls.specs.LoggedCall.{directiveOf};
+use bytes::numbers::wide;
 use calllog::call::Directive;
 use manager::answer::Answer;
 use manager::msgqbroadcast::broadcast;
@@ -16,7 +17,6 @@ use manager::msgqident::ident;
 use manager::msgqreceive::receive;
 use manager::msgqsend::send;
 use manager::msgqurgent::urgent;
-use records::bytes::wide;
 
 // The first n bytes of a message field, or all of it.
 fn message_of(field: &[u8], n: u8) -> &[u8]

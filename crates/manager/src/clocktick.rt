@@ -13,7 +13,7 @@ use coremsg::ticks::expired_mask;
 use coremsg::ticks::tick_task;
 use records::layout::TASK_COUNT;
 use records::status::Verdict;
-use threadq::masks::tasks_in;
+use threadq::masks::ones_in;
 
 // The tick, on sound tables.
 pub fn tick(queues: &mut [u8], pool: &[u8], tasks: &mut [u8]) -> Answer
@@ -26,7 +26,7 @@ pub fn tick(queues: &mut [u8], pool: &[u8], tasks: &mut [u8]) -> Answer
     while t < TASK_COUNT {
         t = tick_task(queues, tasks, t);
     }
-    Answer::Successful(tasks_in(woken), woken)
+    Answer::Successful(ones_in(woken), woken)
 }
 
 // The tick, on tables whose own tests gave this verdict.

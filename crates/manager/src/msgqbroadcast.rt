@@ -19,7 +19,7 @@ use records::queue::QueueRecord;
 use records::queue::read_queue;
 use records::status::RefusalStatus;
 use records::status::Verdict;
-use threadq::masks::tasks_in;
+use threadq::masks::ones_in;
 
 // The first refusal, if any.
 fn refusal(q: QueueRecord, caller: usize, id: u32, size: usize) -> Verdict
@@ -55,7 +55,7 @@ pub fn broadcast(
         return Answer::Refused(status);
     }
     let woken = hand_to_all(queues, tasks, slot, message);
-    Answer::Successful(tasks_in(woken), woken)
+    Answer::Successful(ones_in(woken), woken)
 }
 
 pub fn message_queue_broadcast(

@@ -7,6 +7,7 @@ ghost use Rattle.common_refusals.specs.Tested.{Callable};
 ghost use Rattle.manager.specs.Outcomes.{outcomeOf, accepted};
 use crate::answer::Answer;
 use common_refusals::call_refusal;
+use coremsg::clears::remove_messages;
 use objects::lookup::owner_refusal;
 use records::layout::SLOT_COUNT;
 use records::queue::read_queue;
@@ -24,7 +25,7 @@ pub fn flush(queues: &mut [u8], pool: &mut [u8], tasks: &[u8], caller: usize, id
     if let Verdict::Refused(status) = verdict {
         return Answer::Refused(status);
     }
-    let removed = coremsg::clears::flush(queues, pool, slot);
+    let removed = remove_messages(queues, pool, slot);
     Answer::Successful(removed as u32, 0)
 }
 

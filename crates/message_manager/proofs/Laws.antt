@@ -7,7 +7,8 @@ use mathlib.Core.List.{List, _++_}
 use lib.ListN.{length, drop-of-length-le}
 use borrow.Author.Tests.{eq-eqb, ne-eqb}
 use Rattle.ranks.specs.Table.{spliced}
-use Rattle.records.specs.Bytes.{Tables, toLittleEndian}
+use Rattle.bytes.specs.LittleEndian.{toLittleEndian}
+use Rattle.records.specs.Bytes.{Tables}
 use Rattle.records.specs.Status.{BAD-SHAPE}
 use Rattle.specification.specs.Answer.{Answer, Outcome}
 use Rattle.calllog.specs.CallLog.{answerBytes, answerWidth}

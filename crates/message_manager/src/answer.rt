@@ -4,9 +4,9 @@ ghost use lib.ListN.{length};
 ghost use Rattle.manager.specs.Outcomes.{answerOf};
 ghost use Rattle.calllog.specs.CallLog.{answerWidth};
 ghost use Rattle.logged_calls.specs.LoggedCall.{answerRecord};
+use bytes::copy::copy_into;
 use logged_calls::answer::answer_record;
 use manager::answer::Answer;
-use records::bytes::copy_into;
 
 // Writes the answer record of a call whose record would have this first byte. Returns the status.
 pub fn write_answer(buffer: &mut [u8], a: Answer, firstByte: u8) -> u32

@@ -1,4 +1,4 @@
-// What the directives ask of a queue record.
+// Ids, and who may use a queue.
 ghost use mathlib.Core.Path.{_≡_};
 ghost use Prim.Native.Nat.{_<_};
 ghost use Rattle.records.specs.Layout.{idOf, slotCount, taskCount};

@@ -9,8 +9,8 @@ use lib.Dec.{ltb}
 use lib.ListN.{length, getD, take, drop, replicate}
 use borrow.Author.Tests.{ltb-true}
 use Rattle.ranks.specs.Lists.{allTrue}
-use Rattle.records.specs.Layout.{byteValues}
-use Rattle.records.specs.Bytes.{toLittleEndian, encodeQueue, encodeBuffer, encodeTask, encode}
+use Rattle.bytes.specs.LittleEndian.{byteValues, toLittleEndian}
+use Rattle.records.specs.Bytes.{encodeQueue, encodeBuffer, encodeTask, encode}
 use Rattle.records.specs.Records.{Queue, Buffer, Task, State, freeQueue, freeBuffer, freshTask}
 use Rattle.records.specs.InRange.{AllBytes, QueueInRange, BufferInRange, TaskInRange, FieldsInRange}
 use Rattle.records.proofs.DecodeEncode.{Each, each-of}

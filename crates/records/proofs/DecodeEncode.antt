@@ -1,30 +1,17 @@
 -- A record is the record of its bytes, if its fields fit. Assumes nothing.
-use Prim.Native.Nat.{ℕ, zero, suc, _+_, _*_, _/_, _^_, _<_}
+use Prim.Native.Nat.{ℕ, zero, suc, _+_, _*_, _<_}
 use native.Mathlib.Omega.{arith}
-use native.Mathlib.Nat.{not-suc-le-zero, div-lt-iff-lt-mul, pow-suc}
+use native.Mathlib.Nat.{not-suc-le-zero}
 use mathlib.Core.Path.{_≡_, refl, ap, ap₂, _∙_, subst}
 use mathlib.Core.List.{List, [], _∷_, _++_, map, flatten, append-assoc}
 use lib.ListN.{length, getD, take, drop, length-append}
 use lib.Seq.{take-all, take-at, drop-at, drop-append-add}
-use Rattle.records.specs.Layout.{byteValues, capacity, queueWidth, bufferWidth, taskWidth}
+use Rattle.bytes.specs.LittleEndian.{toLittleEndian}
+use Rattle.records.specs.Layout.{capacity, queueWidth, bufferWidth, taskWidth}
 use Rattle.records.specs.Records.{Queue, Buffer, Task}
-use Rattle.records.specs.Bytes.{fromLittleEndian, toLittleEndian, decodeQueue, encodeQueue, decodeBuffer, encodeBuffer, decodeTask, encodeTask}
+use Rattle.records.specs.Bytes.{decodeQueue, encodeQueue, decodeBuffer, encodeBuffer, decodeTask, encodeTask}
 use Rattle.ranks.specs.Table.{slice, records}
-
--- ---- Numbers
-
-pub length-little-endian : (k n : ℕ) → length (toLittleEndian k n) ≡ k
-unfolding toLittleEndian
-length-little-endian zero n = refl
-length-little-endian (suc k) n = ap suc (length-little-endian k (n / byteValues))
-
-pub from-to-little-endian : (k n : ℕ) → n < byteValues ^ k → fromLittleEndian (toLittleEndian k n) ≡ n
-unfolding fromLittleEndian toLittleEndian
-from-to-little-endian zero n h = omega arith
-from-to-little-endian (suc k) n h =
-    let lt : n < byteValues ^ k * byteValues = subst (λ (m : ℕ). n < m) (pow-suc byteValues k) h in
-    let ih : fromLittleEndian (toLittleEndian k (n / byteValues)) ≡ n / byteValues = from-to-little-endian k (n / byteValues) (div-lt-iff-lt-mul (omega arith) .1 lt) in
-    omega arith
+use Rattle.bytes.proofs.NumberBytes.{length-little-endian, from-to-little-endian}
 
 -- ---- Records
 

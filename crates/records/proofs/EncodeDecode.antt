@@ -11,9 +11,10 @@ use lib.Seq.{take-all, drop-cons}
 use borrow.Author.Tests.{eqb-true}
 use Rattle.records.proofs.ByteLists.{bytes-head, bytes-tail, bytes-take, bytes-drop}
 use Rattle.records.proofs.DecodeEncode.{queue-fields, task-fields}
-use Rattle.records.proofs.Writing.{part-and-rest}
-use Rattle.records.specs.Layout.{byteValues, capacity, slotCount, queueWidth, queuesSize, bufferCount, bufferWidth, bufferData, poolSize, taskCount, taskWidth, taskData, tasksSize}
-use Rattle.records.specs.Bytes.{fromLittleEndian, toLittleEndian, decodeQueue, encodeQueue, decodeBuffer, encodeBuffer, decodeTask, encodeTask, Tables, decode, encode, rightLengths}
+use Rattle.bytes.proofs.NumberBytes.{part-and-rest}
+use Rattle.bytes.specs.LittleEndian.{byteValues, fromLittleEndian, toLittleEndian}
+use Rattle.records.specs.Layout.{capacity, slotCount, queueWidth, queuesSize, bufferCount, bufferWidth, bufferData, poolSize, taskCount, taskWidth, taskData, tasksSize}
+use Rattle.records.specs.Bytes.{decodeQueue, encodeQueue, decodeBuffer, encodeBuffer, decodeTask, encodeTask, Tables, decode, encode, rightLengths}
 use Rattle.records.specs.InRange.{AllBytes, ByteTables}
 use Rattle.ranks.specs.Table.{slice, byte, records}
 use Rattle.ranks.proofs.Tests.{both}

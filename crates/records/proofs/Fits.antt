@@ -6,9 +6,10 @@ use mathlib.Core.Path.{_≡_, refl, subst}
 use mathlib.Core.List.{List, [], _∷_}
 use lib.ListN.{length}
 use Rattle.ranks.specs.Table.{slice, byte}
-use Rattle.records.specs.Layout.{byteValues, capacity, queueWidth, bufferWidth, bufferData, taskWidth, taskData}
+use Rattle.bytes.specs.LittleEndian.{byteValues, fromLittleEndian}
+use Rattle.records.specs.Layout.{capacity, queueWidth, bufferWidth, bufferData, taskWidth, taskData}
 use Rattle.records.specs.Records.{Queue, freeQueue}
-use Rattle.records.specs.Bytes.{fromLittleEndian, decodeQueue, decodeBuffer, decodeTask}
+use Rattle.records.specs.Bytes.{decodeQueue, decodeBuffer, decodeTask}
 use Rattle.records.specs.Changes.{withCounts, withGeneration, liveWith}
 use Rattle.records.specs.InRange.{AllBytes, ByteList, QueueInRange, BufferInRange, TaskInRange}
 use Rattle.records.proofs.ByteLists.{bytes-head, bytes-tail}

@@ -8,4 +8,3 @@ pub mod RecordCases
 pub mod Statuses
 pub mod Tabled
 pub mod Writing
-pub mod ZeroBytes

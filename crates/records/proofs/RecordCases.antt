@@ -4,7 +4,8 @@ use Rattle.ranks.specs.Lists.{mapFromIndex, mapWithIndex, firstTrue, numbersFro
 use Rattle.ranks.specs.Table.{slice}
 use Rattle.records.specs.Split.{split, shareOfSlot, shareOfBuffer, shareOfTask, shareLimit}
 use Rattle.records.specs.Records.{fresh, freshTask}
-use Rattle.records.specs.Bytes.{fromLittleEndian, toLittleEndian, decodeQueue, encodeQueue, decodeBuffer, encodeBuffer, decodeTask, encodeTask, encode}
+use Rattle.bytes.specs.LittleEndian.{fromLittleEndian, toLittleEndian}
+use Rattle.records.specs.Bytes.{decodeQueue, encodeQueue, decodeBuffer, encodeBuffer, decodeTask, encodeTask, encode}
 use Rattle.records.specs.RecordCases.{exampleQueue, queueBytes, exampleBuffer, bufferBytes, exampleTask, taskBytes, recordCases, splitCases, freshTaskBytes, LiteralsHold}
 use mathlib.Core.Path.{_≡_, refl, ap}
 use mathlib.Core.List.{flatten}

@@ -1,13 +1,13 @@
 -- Bytes written to the tables, and what becomes of the records. Assumes nothing.
 use Prim.Native.Nat.{ℕ, zero, suc, _+_, _-_, _*_, _^_, _≤_, _<_}
-use native.Mathlib.Nat.{zero-add, pow-suc, mul-comm, mul-assoc}
+use native.Mathlib.Nat.{zero-add}
 use native.Mathlib.Omega.{arith}
 use mathlib.Core.Path.{_≡_, refl, sym, ap, ap₂, _∙_}
 use mathlib.Core.Bool.{Bool, true, false}
 use mathlib.Core.Logic.{⊎-elim}
 use mathlib.Core.List.{List, [], _∷_, _++_, map, append-assoc}
-use lib.ListN.{length, getD, take, drop, set, replicate, length-set, length-map, length-drop, length-append, take-append-drop}
-use lib.Seq.{getD-set-same, getD-set-other, set-getD, drop-cons, drop-drop, take-all, take-add}
+use lib.ListN.{length, getD, take, drop, set, replicate, length-set, length-map, length-drop, length-append}
+use lib.Seq.{getD-set-same, getD-set-other, set-getD, drop-drop, take-all}
 use borrow.Author.Tests.{eq-eqb, ne-eqb}
 use Rattle.ranks.specs.Lists.{if_then_else_, mapWithIndex}
 use Rattle.ranks.specs.Position.{Position}
@@ -15,76 +15,17 @@ use Rattle.ranks.specs.Table.{slice, byte, records, spliced, positionIn, putPos
 use Rattle.ranks.proofs.Tests.{same?}
 use Rattle.ranks.proofs.Lists.{at-mapped, length-mapped, is-mapped}
 use Rattle.ranks.proofs.Table.{length-records, at-records, length-slice, before, records-put, drop-take, spliced-take, spliced-drop}
-use Rattle.records.specs.Layout.{byteValues, capacity, bufferCount, bufferWidth, bufferPosition, bufferData, poolSize, taskCount, taskWidth, taskPosition, taskData, tasksSize}
+use Rattle.bytes.specs.LittleEndian.{byteValues, toLittleEndian}
+use Rattle.records.specs.Layout.{capacity, bufferCount, bufferWidth, bufferPosition, bufferData, poolSize, taskCount, taskWidth, taskPosition, taskData, tasksSize}
 use Rattle.records.specs.Records.{Task, freeBuffer, freshTask}
-use Rattle.records.specs.Bytes.{fromLittleEndian, toLittleEndian, decodeBuffer, encodeBuffer, decodeTask, decodePool, decodeTasks}
+use Rattle.records.specs.Bytes.{decodeBuffer, encodeBuffer, decodeTask, decodePool, decodeTasks}
 use Rattle.records.specs.Changes.{atIndex, moveBuffer, moveTask, overwriteFront, messageBuffer, withMessage}
 use Rattle.records.specs.TaskHeads.{headOf, withHead, messageHead}
-use Rattle.records.proofs.DecodeEncode.{BufferEncodable, from-to-little-endian}
+use Rattle.bytes.proofs.NumberBytes.{from-to-little-endian, all-two, slice-lent}
+use Rattle.records.proofs.DecodeEncode.{BufferEncodable}
 use Rattle.records.proofs.Access
 use Rattle.records.proofs.Access.{at-map}
 use Rattle.records.specs.declared.task.TaskHead.{TaskHead}
-
--- ---- Numbers of two, four and eight bytes
-
-pub two : (r : List ℕ) (i : ℕ) → i + 2 ≤ length r → slice i 2 r ≡ byte i r ∷ byte (i + 1) r ∷ []
-unfolding slice
-two r i h =
-    ap (take 2) (drop-cons r i 0 (omega arith) ∙ ap (λ (l : List ℕ). byte i r ∷ l) (drop-cons r (suc i) 0 (omega arith)))
-    ∙ ap (λ (n : ℕ). byte i r ∷ byte n r ∷ []) (let e : suc i ≡ i + 1 = omega arith in e)
-
-pub four : (r : List ℕ) (i : ℕ) → i + 4 ≤ length r → slice i 4 r ≡ byte i r ∷ byte (i + 1) r ∷ byte (i + 2) r ∷ byte (i + 3) r ∷ []
-unfolding slice
-four r i h =
-    ap (take 4) (drop-cons r i 0 (omega arith)
-    ∙ ap (λ (l : List ℕ). byte i r ∷ l) (drop-cons r (suc i) 0 (omega arith)
-    ∙ ap (λ (l : List ℕ). byte (suc i) r ∷ l) (drop-cons r (suc (suc i)) 0 (omega arith)
-    ∙ ap (λ (l : List ℕ). byte (suc (suc i)) r ∷ l) (drop-cons r (suc (suc (suc i))) 0 (omega arith)))))
-    ∙ (λ k. byte i r ∷ byte ((let e : suc i ≡ i + 1 = omega arith in e) k) r ∷ byte ((let e : suc (suc i) ≡ i + 2 = omega arith in e) k) r
-    ∷ byte ((let e : suc (suc (suc i)) ≡ i + 3 = omega arith in e) k) r ∷ [])
-
-pub half-number : (r : List ℕ) (i : ℕ) → i + 2 ≤ length r → byte i r + byteValues * byte (i + 1) r ≡ fromLittleEndian (slice i 2 r)
-unfolding fromLittleEndian
-half-number r i h = rw (two r i h) (omega arith)
-
--- two parts side by side
-pub slice-add : (i m n : ℕ) (r : List ℕ) → slice i (m + n) r ≡ slice i m r ++ slice (i + m) n r
-unfolding slice
-slice-add i m n r = take-add m n (drop i r) ∙ ap (λ (l : List ℕ). take m (drop i r) ++ take n l) (drop-drop m i r)
-
--- a part, and what stands behind it
-pub part-and-rest : (i n : ℕ) (r : List ℕ) → drop i r ≡ slice i n r ++ drop (i + n) r
-unfolding slice
-part-and-rest i n r = sym (take-append-drop n (drop i r)) ∙ ap (λ (l : List ℕ). take n (drop i r) ++ l) (drop-drop n i r)
-
-number-append : (xs ys : List ℕ) → fromLittleEndian (xs ++ ys) ≡ fromLittleEndian xs + byteValues ^ length xs * fromLittleEndian ys
-unfolding fromLittleEndian
-number-append [] ys = omega arith
-number-append (x ∷ xs) ys =
-    let e : byteValues ^ suc (length xs) * fromLittleEndian ys ≡ byteValues * (byteValues ^ length xs * fromLittleEndian ys)
-    = ap (λ (n : ℕ). n * fromLittleEndian ys) (pow-suc byteValues (length xs) ∙ mul-comm (byteValues ^ length xs) byteValues) ∙ mul-assoc byteValues (byteValues ^ length xs) (fromLittleEndian ys) in
-    omega (arith, number-append xs ys, e)
-
--- a number in two parts
-pub number-add : (i m n : ℕ) (r : List ℕ) → i + m ≤ length r
-    → fromLittleEndian (slice i m r) + byteValues ^ m * fromLittleEndian (slice (i + m) n r) ≡ fromLittleEndian (slice i (m + n) r)
-number-add i m n r h =
-    sym (ap fromLittleEndian (slice-add i m n r) ∙ number-append (slice i m r) (slice (i + m) n r)
-    ∙ ap (λ (k : ℕ). fromLittleEndian (slice i m r) + byteValues ^ k * fromLittleEndian (slice (i + m) n r)) (length-slice i m r h))
-
--- two and four bytes one by one
-pub all-two : (l : List ℕ) → length l ≡ 2 → l ≡ byte 0 l ∷ byte 1 l ∷ []
-unfolding slice
-all-two l e = sym (take-all 2 l (omega arith)) ∙ two l 0 (omega arith)
-
-pub all-four : (l : List ℕ) → length l ≡ 4 → l ≡ byte 0 l ∷ byte 1 l ∷ byte 2 l ∷ byte 3 l ∷ []
-unfolding slice
-all-four l e = sym (take-all 4 l (omega arith)) ∙ four l 0 (omega arith)
-
--- a part lent, as the borrow checker says it
-pub slice-lent : (t : List ℕ) (a n : ℕ) → take (a + n - a) (drop a t) ≡ slice a n t
-unfolding slice
-slice-lent t a n = ap (λ (k : ℕ). take k (drop a t)) (let e : a + n - a ≡ n = omega arith in e)
 
 -- ---- One record of a table
 

@@ -1,18 +1,9 @@
 -- Document 01, "Tables": the bytes of each record and of the tables. "Fixed-size records, no header, little-endian."
-use Rattle.ranks.specs.Prelude.{ℕ, zero, suc, _+_, _*_, _/_, _%_, Bool, _&&_, List, [], _∷_, _++_, map, flatten, length, eqb}
+use Rattle.ranks.specs.Prelude.{ℕ, _+_, _*_, Bool, _&&_, List, _∷_, _++_, map, flatten, length, eqb}
 use Rattle.ranks.specs.Table.{slice, byte, records, positionIn}
-use Rattle.records.specs.Layout.{byteValues, capacity, slotCount, queueWidth, queuesSize, bufferCount, bufferWidth, bufferPosition, bufferLength, bufferData, poolSize, taskCount, taskWidth, taskPosition, taskData, tasksSize}
+use Rattle.bytes.specs.LittleEndian.{fromLittleEndian, toLittleEndian}
+use Rattle.records.specs.Layout.{capacity, slotCount, queueWidth, queuesSize, bufferCount, bufferWidth, bufferPosition, bufferLength, bufferData, poolSize, taskCount, taskWidth, taskPosition, taskLength, taskData, tasksSize}
 use Rattle.records.specs.Records.{Queue, Buffer, Task, State}
-
--- the number whose bytes these are, the lowest first
-unfoldable pub fromLittleEndian : List ℕ → ℕ
-fromLittleEndian [] = 0
-fromLittleEndian (b ∷ bs) = b + byteValues * fromLittleEndian bs
-
--- the lowest `k` bytes of a number, the lowest first
-unfoldable pub toLittleEndian : (k : ℕ) → ℕ → List ℕ
-toLittleEndian zero n = []
-toLittleEndian (suc k) n = n % byteValues ∷ toLittleEndian k (n / byteValues)
 
 -- ---- Records
 
@@ -54,7 +45,7 @@ decodeTask r =
       position = positionIn taskPosition r;
       priority = byte 3 r;
       status = byte 4 r;
-      messageLength = byte 5 r;
+      messageLength = byte taskLength r;
       reserved = slice 6 2 r;
       ticksLeft = fromLittleEndian (slice 8 4 r);
       reservedAfter = slice 12 4 r;

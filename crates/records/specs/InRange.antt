@@ -1,6 +1,7 @@
 -- What a byte can hold: tables of bytes of the right lengths, and records whose fields fit the bytes they are written in.
 use Rattle.ranks.specs.Prelude.{ℕ, _<_, _≡_, true, List, length, getD}
-use Rattle.records.specs.Layout.{byteValues, capacity, slotCount, bufferCount, taskCount}
+use Rattle.bytes.specs.LittleEndian.{byteValues}
+use Rattle.records.specs.Layout.{capacity, slotCount, bufferCount, taskCount}
 use Rattle.records.specs.Records.{Queue, Buffer, Task, State, queueAt, bufferAt, taskAt}
 use Rattle.records.specs.Bytes.{Tables, rightLengths}
 

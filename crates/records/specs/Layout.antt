@@ -1,10 +1,6 @@
 -- Document 01, "Tables": how many records each table has, how many bytes a record has, where its fields stand, and what an id is.
 use Rattle.ranks.specs.Prelude.{ℕ, _+_, _*_, _/_, _%_}
 
--- how many values a byte has
-abbrev pub byteValues : ℕ
-byteValues = 256
-
 -- "8-127 data"; "16-135 the task's receive buffer"
 abbrev pub capacity : ℕ
 capacity = 120
@@ -19,9 +15,12 @@ bufferLength = 2
 abbrev pub bufferData : ℕ
 bufferData = 8
 
--- "1 queue (slot+1, 0 none); 2 rank"; "16-135 the task's receive buffer"
+-- "1 queue (slot+1, 0 none); 2 rank"; "5 length"; "16-135 the task's receive buffer"
 abbrev pub taskPosition : ℕ
 taskPosition = 1
+
+abbrev pub taskLength : ℕ
+taskLength = 5
 
 abbrev pub taskData : ℕ
 taskData = 16

@@ -6,11 +6,11 @@ ghost use Rattle.records.specs.Layout.{capacity, bufferCount, poolSize};
 ghost use Rattle.records.specs.Records.{freeBuffer};
 ghost use Rattle.records.specs.Bytes.{encodeBuffer, decodePool};
 ghost use Rattle.records.specs.Changes.{changeAt, messageBuffer};
-use crate::bytes::copy_into;
 use crate::layout::BUFFER_DATA;
 use crate::layout::BUFFER_LENGTH;
 use crate::layout::BUFFER_POSITION;
 use crate::layout::BUFFER_WIDTH;
+use bytes::copy::copy_into;
 
 fn encode_message(queue: u8, rank: u8, message: &[u8]) -> [u8; BUFFER_WIDTH]
     requires { ⌜ length (now message) ≤ capacity ⌝ }

@@ -1,6 +1,4 @@
 // Document 01, "Tables": how many records each table has, how many bytes a record has, and where its fields stand.
-pub const BYTE_VALUES: usize = 256;
-
 pub const CAPACITY: usize = 120;
 
 pub const LARGEST_LIMIT: usize = 16;
@@ -43,5 +41,7 @@ pub const BUFFER_LENGTH: usize = 2;
 pub const BUFFER_DATA: usize = 8;
 
 pub const TASK_POSITION: usize = 1;
+
+pub const TASK_LENGTH: usize = 5;
 
 pub const TASK_DATA: usize = 16;

@@ -7,15 +7,15 @@ ghost use Rattle.records.specs.Layout.{slotCount, queueWidth, queuesSize
 ghost use Rattle.records.specs.Records.{isLive, hasPriority, isOpen, attributesAllowed, limitAllowed, maxSizeAllowed, sizeAllowed, isFull};
 ghost use Rattle.records.specs.Bytes.{decodeQueue, encodeQueue, decodeQueues, decodeQueueAt};
 ghost use Rattle.records.specs.Changes.{changeAt, withPending, withWaiters, withGeneration, liveWith, freed};
-use crate::bytes::bytes_of_u16;
-use crate::bytes::bytes_of_u32;
-use crate::bytes::copy_into;
-use crate::bytes::four_bytes;
-use crate::bytes::read_u16;
-use crate::bytes::read_u32;
 use crate::layout::CAPACITY;
 use crate::layout::LARGEST_LIMIT;
 use crate::layout::QUEUE_WIDTH;
+use bytes::copy::copy_into;
+use bytes::numbers::bytes_of_u16;
+use bytes::numbers::bytes_of_u32;
+use bytes::numbers::four_bytes;
+use bytes::numbers::read_u16;
+use bytes::numbers::read_u32;
 
 // A queue record, field by field.
 pub struct QueueRecord {

@@ -1,20 +1,22 @@
 // Task records.
 ghost use mathlib.Core.Path.{_≡_};
 ghost use Prim.Native.Nat.{_<_, _≤_};
+ghost use lib.Dec.{eqb};
 ghost use lib.ListN.{length};
 ghost use Rattle.records.specs.Layout.{capacity, taskCount, taskWidth, tasksSize};
 ghost use Rattle.records.specs.Bytes.{decodeTask, decodeTasks, decodeTaskAt};
-ghost use Rattle.records.specs.Records.{freshTask};
+ghost use Rattle.records.specs.Records.{waitingState, freshTask};
 ghost use Rattle.records.specs.Changes.{changeAt, withMessage};
 ghost use Rattle.records.specs.TaskHeads.{headOf, withHead, readyHead, messageHead, waitingHead, tickedHead};
-use crate::bytes::bytes_of_u32;
-use crate::bytes::copy_into;
-use crate::bytes::read_u32;
-use crate::bytes::two_bytes;
 use crate::layout::TASK_DATA;
+use crate::layout::TASK_LENGTH;
 use crate::layout::TASK_WIDTH;
 use crate::status::SUCCESSFUL;
 use crate::status::WAITING;
+use bytes::copy::copy_into;
+use bytes::numbers::bytes_of_u32;
+use bytes::numbers::read_u32;
+use bytes::numbers::two_bytes;
 
 pub const READY_STATE: u8 = 0;
 
@@ -33,6 +35,12 @@ pub struct TaskHead {
 }
 
 impl TaskHead {
+    pub fn is_waiting(self) -> bool
+        ensures { λ r. ⌜ r ≡ eqb (self .state) waitingState ⌝ }
+    {
+        self.state == WAITING_STATE
+    }
+
     // The task is ready and in no queue. "Leaving a queue zeroes queue, rank and ticks."
     pub fn ready_with(mut self, status: u8) -> Self
         ensures { λ r. ⌜ r ≡ readyHead status self ⌝ }
@@ -59,7 +67,7 @@ impl TaskHead {
     }
 
     // The task is ready and has a message of this length: "status 0, length set".
-    pub fn with_message_length(mut self, n: u8) -> Self
+    pub fn ready_with_message(mut self, n: u8) -> Self
         ensures { λ r. ⌜ r ≡ messageHead n self ⌝ }
     {
         self.state = READY_STATE;
@@ -89,7 +97,7 @@ fn decode_head(r: &[u8]) -> TaskHead
         rank: r[2],
         priority: r[3],
         status: r[4],
-        messageLength: r[5],
+        messageLength: r[TASK_LENGTH],
         reserved: two_bytes(r, 6),
         ticksLeft: read_u32(r, 8),
     }
@@ -139,7 +147,7 @@ fn deliver_to(r: &mut [u8], message: &[u8])
     requires { ⌜ (length (now r) ≡ taskWidth) × (length (now message) ≤ capacity) ⌝ }
     ensures { λ _. ⌜ decodeTask (now (r .exit)) ≡ withMessage (now (message .entry)) (decodeTask (now (r .entry))) ⌝ }
 {
-    let h = decode_head(r).with_message_length(message.len() as u8);
+    let h = decode_head(r).ready_with_message(message.len() as u8);
     copy_into(r, TASK_DATA, message);
     encode_head(r, h);
 }

@@ -6,7 +6,7 @@ use mathlib.Core.Path.{_≡_, refl, ap, _∙_}
 use mathlib.Core.List.{List, [], _∷_, _++_, append-nil}
 use lib.ListN.{length, replicate, set, take, drop, length-replicate, length-drop, drop-of-length-le}
 use lib.Seq.{drop-cons, length-take-le}
-use Rattle.records.specs.Layout.{byteValues}
+use Rattle.bytes.specs.LittleEndian.{byteValues}
 use Rattle.ranks.specs.Table.{byte, spliced}
 use Rattle.records.specs.Bytes.{Tables}
 use Rattle.calllog.specs.CallLog.{answerWidth, recordCount}

@@ -1,5 +1,6 @@
 -- A stored case: whether a log, replayed from the tables of an image, is answered as stored and leaves the tables as stored.
-use Rattle.records.specs.Layout.{byteValues, queuesSize, poolSize, tasksSize}
+use Rattle.bytes.specs.LittleEndian.{byteValues}
+use Rattle.records.specs.Layout.{queuesSize, poolSize, tasksSize}
 use Rattle.ranks.specs.Prelude.{ℕ, _+_, _*_, Bool, _&&_, List, [], _∷_, length, set, eqb}
 use Rattle.ranks.specs.Table.{slice}
 use Rattle.records.specs.Bytes.{Tables}

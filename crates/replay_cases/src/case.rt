@@ -2,7 +2,7 @@
 ghost use mathlib.Core.Path.{_≡_};
 ghost use Prim.Native.Nat.{_+_, _*_, _≤_, _<_};
 ghost use lib.ListN.{length, take, set};
-ghost use Rattle.records.specs.Layout.{byteValues};
+ghost use Rattle.bytes.specs.LittleEndian.{byteValues};
 ghost use Rattle.ranks.specs.Table.{byte};
 ghost use Rattle.records.specs.Bytes.{tables};
 ghost use Rattle.calllog.specs.CallLog.{answerWidth, recordCount};
@@ -10,11 +10,11 @@ ghost use Rattle.replay_cases.specs.StoredCase.{imageSize, answersRoom, 
 use crate::image::IMAGE_SIZE;
 use crate::image::POOL_PLACE;
 use crate::image::TASKS_PLACE;
+use bytes::copy::copy_into;
+use bytes::numbers::BYTE_VALUES;
+use bytes::numbers::wide;
 use calllog::layout::ANSWER_WIDTH;
 use logio::agreeing::agreeing;
-use records::bytes::copy_into;
-use records::bytes::wide;
-use records::layout::BYTE_VALUES;
 use records::layout::POOL_SIZE;
 use records::layout::QUEUES_SIZE;
 use records::layout::TASKS_SIZE;

@@ -8,11 +8,11 @@ use borrow.Author.Tests.{ne-eqb}
 use Rattle.ranks.specs.Lists.{mapFromIndex, mapWithIndex, allTrue, firstTrue, sumOf, within, allZero, numbersFrom}
 use Rattle.ranks.specs.Table.{slice, records}
 use Rattle.records.specs.Records.{State, fresh}
-use Rattle.records.specs.Bytes.{fromLittleEndian, toLittleEndian}
+use Rattle.bytes.specs.LittleEndian.{fromLittleEndian, toLittleEndian}
 use Rattle.records.specs.InRange.{AllBytes}
 use Rattle.records.specs.Layout.{taskCount}
 use Rattle.records.specs.Status.{SUCCESSFUL}
-use Rattle.records.proofs.DecodeEncode.{from-to-little-endian}
+use Rattle.bytes.proofs.NumberBytes.{from-to-little-endian}
 use Rattle.specification.specs.Answer.{Answer, Outcome}
 use Rattle.specification.specs.Call.{create, call, argumentsInRange}
 use Rattle.specification.specs.Step.{step}

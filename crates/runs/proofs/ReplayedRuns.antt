@@ -9,11 +9,12 @@ use lib.ListN.{length, take, drop, List·getD-eq-default}
 use Rattle.ranks.specs.Lists.{allTrue}
 use Rattle.ranks.specs.Table.{slice, byte, records}
 use Rattle.ranks.proofs.Tests.{either, lt-or-ge}
-use Rattle.records.specs.Bytes.{Tables, rightLengths, decode, fromLittleEndian, toLittleEndian}
+use Rattle.bytes.specs.LittleEndian.{fromLittleEndian, toLittleEndian}
+use Rattle.records.specs.Bytes.{Tables, rightLengths, decode}
 use Rattle.records.specs.InRange.{AllBytes}
 use Rattle.records.specs.Status.{SUCCESSFUL, WAITING, BAD-SHAPE, CORRUPT}
 use Rattle.records.proofs.ByteLists.{bytes-take, bytes-drop}
-use Rattle.records.proofs.DecodeEncode.{from-to-little-endian}
+use Rattle.bytes.proofs.NumberBytes.{from-to-little-endian}
 use Rattle.specification.specs.Answer.{Answer, Outcome, refuse}
 use Rattle.specification.specs.Call.{Call, argumentsInRange}
 use Rattle.specification.specs.Sound.{sound}

@@ -11,7 +11,8 @@ use borrow.Author.Tests.{lt-ltb}
 use Rattle.ranks.specs.Table.{slice, records, spliced}
 use Rattle.ranks.proofs.Table.{length-records}
 use Rattle.ranks.proofs.Tests.{lt-or-ge}
-use Rattle.records.specs.Bytes.{Tables, toLittleEndian}
+use Rattle.bytes.specs.LittleEndian.{toLittleEndian}
+use Rattle.records.specs.Bytes.{Tables}
 use Rattle.calllog.specs.CallLog.{readRecord, readAt, placeAfter, answerBytes, recordWidth, answerWidth, recordCount}
 use Rattle.calllog.specs.declared.call.LogResult.{LogResult}
 use Rattle.runs.specs.Replay.{Replayed, replayFound, replayRecord, replayRecords, recordsOf, replayed, ReplayedAt, replayedAt, replayedFront}

@@ -10,11 +10,11 @@ use lib.Dec.{eqb, ltb}
 use lib.ListN.{length, take, drop, length-take, List·getD-eq-default}
 use lib.Seq.{getD-take, getD-drop}
 use borrow.Author.Tests.{lt-ltb}
-use Rattle.records.specs.Layout.{byteValues}
+use Rattle.bytes.specs.LittleEndian.{byteValues, fromLittleEndian}
 use Rattle.ranks.specs.Lists.{if_then_else_, allTrue}
 use Rattle.ranks.specs.Table.{slice}
 use Rattle.ranks.proofs.Tests.{lt-or-ge}
-use Rattle.records.specs.Bytes.{Tables, fromLittleEndian}
+use Rattle.records.specs.Bytes.{Tables}
 use Rattle.records.proofs.Fits.{number-bound}
 use Rattle.records.specs.Status.{statusNumber, verdictStatus, SUCCESSFUL}
 use Rattle.records.specs.declared.status.RefusalStatus.{RefusalStatus}

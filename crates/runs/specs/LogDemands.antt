@@ -4,7 +4,8 @@ use Rattle.ranks.specs.Prelude.{ℕ, _<_, _≡_, true, not, _||_, List, [], _�
 use Rattle.ranks.specs.Lists.{allTrue, numbersFrom}
 use Rattle.records.specs.Split.{shareOfTask}
 use Rattle.records.specs.Layout.{taskCount, capacity}
-use Rattle.records.specs.Bytes.{Tables, toLittleEndian}
+use Rattle.bytes.specs.LittleEndian.{toLittleEndian}
+use Rattle.records.specs.Bytes.{Tables}
 use Rattle.records.specs.InRange.{AllBytes}
 use Rattle.records.specs.Status.{CORRUPT, BAD-SHAPE}
 use Rattle.specification.specs.Run.{Event, goodPriorities, freshTables}

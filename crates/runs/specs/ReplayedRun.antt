@@ -1,7 +1,8 @@
 -- Document 01, "Runs" and "The call log": a replayed log is a run of its calls. "A malformed log record is no call."
 use Rattle.ranks.specs.Prelude.{ℕ, _≡_, List, [], _∷_, _++_, map, take, drop}
 use Rattle.ranks.specs.Table.{slice, byte}
-use Rattle.records.specs.Bytes.{Tables, fromLittleEndian}
+use Rattle.bytes.specs.LittleEndian.{fromLittleEndian}
+use Rattle.records.specs.Bytes.{Tables}
 use Rattle.records.specs.InRange.{AllBytes}
 use Rattle.records.specs.Status.{BAD-SHAPE}
 use Rattle.specification.specs.Answer.{Answer}

@@ -6,6 +6,7 @@ ghost use Rattle.records.specs.Bytes.{tables};
 ghost use Rattle.common_refusals.specs.Tested.{Tested};
 ghost use Rattle.calllog.specs.CallLog.{answerWidth, recordCount};
 ghost use Rattle.runs.specs.Replay.{NextRecord, replayFound, replayedAt, replayed, replayedFront, replayedInto};
+use bytes::copy::copy_into;
 use calllog::call::LogResult;
 use calllog::decode::message_field;
 use calllog::decode::record_count;
@@ -14,7 +15,6 @@ use calllog::reader::read_at;
 use common_refusals::table_refusal;
 use logged_calls::answer::answer;
 use logged_calls::answer::answer_record;
-use records::bytes::copy_into;
 use records::status::Verdict;
 
 // One record of a log, where the reader found this and the tests of the tables gave this verdict: its answer record.

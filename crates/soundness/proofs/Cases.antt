@@ -15,9 +15,9 @@ use Rattle.ranks.proofs.Lists.{all-cons, all-nil, holds, held}
 use Rattle.records.specs.Layout.{slotCount, taskWidth}
 use Rattle.records.specs.Split.{shareOfSlot, shareOfBuffer, shareOfTask}
 use Rattle.records.specs.Records.{Queue, Buffer, Task, State, queueAt, isLive, isOpen, sizeAllowed, readyState, waitingState}
-use Rattle.records.specs.Bytes.{fromLittleEndian}
+use Rattle.bytes.specs.LittleEndian.{fromLittleEndian}
 use Rattle.records.specs.Status.{WAITING}
-use Rattle.records.proofs.ZeroBytes.{zero-number, zeros-one, zeros-add}
+use Rattle.bytes.proofs.ZeroBytes.{zero-number, zeros-one, zeros-add}
 use Rattle.specification.proofs.Rules.{Live, Free, queue-rules}
 use Rattle.soundness.specs.Parts.{belowCount, bufferTests, taskTests, usedBufferTests, waitingTaskTests}
 use Rattle.specification.specs.Sound.{slotIn, soundQueue, liveQueueRules, freeQueueRules, limitIn, soundBuffer, freeBufferRules, usedBufferRules, soundTask, taskRules, readyTaskRules, waitingTaskRules}

@@ -19,7 +19,8 @@ use Rattle.ranks.proofs.Tests.{either, both, and, or, same?, lt-or-ge}
 use Rattle.ranks.proofs.Lists.{at-mapped, length-mapped, every-at, every-from, count-none, length-range, at-range}
 use Rattle.ranks.proofs.Ranked.{implying}
 use Rattle.ranks.proofs.Table.{length-records, at-records, position-slice}
-use Rattle.records.specs.Layout.{slotCount, byteValues}
+use Rattle.bytes.specs.LittleEndian.{byteValues}
+use Rattle.records.specs.Layout.{slotCount}
 use Rattle.records.specs.Records.{Queue, freeQueue, isLive}
 use Rattle.soundness.specs.Parts.{positions, positionOf, held, belowCount, Among, queueRanked}
 use Rattle.soundness.proofs.Cases.{same-truth}

@@ -14,8 +14,8 @@ use Rattle.ranks.specs.Lists.{allZero, sumOf}
 use Rattle.ranks.proofs.Lists.{zeros-cons, zeros-nil}
 use Rattle.ranks.specs.Table.{slice, byte}
 use Rattle.records.specs.Layout.{capacity, bufferWidth, bufferLength, bufferData}
-use Rattle.records.proofs.Writing.{all-four}
-use Rattle.records.proofs.ZeroBytes.{zeros-one, zeros-add, zeros-rest}
+use Rattle.bytes.proofs.NumberBytes.{all-four}
+use Rattle.bytes.proofs.ZeroBytes.{zeros-one, zeros-add, zeros-rest}
 
 -- ---- Zero bytes
 

@@ -4,7 +4,8 @@ use Rattle.ranks.specs.Lists.{if_then_else_, _implies_, mapWithIndex, allTrue}
 use Rattle.ranks.specs.Position.{Position, noQueue, inQueue}
 use Rattle.ranks.specs.Table.{records, positionIn}
 use Rattle.ranks.specs.Steps.{ranked}
-use Rattle.records.specs.Layout.{byteValues, bufferCount, bufferWidth, bufferPosition, taskCount, taskWidth, taskPosition}
+use Rattle.bytes.specs.LittleEndian.{byteValues}
+use Rattle.records.specs.Layout.{bufferCount, bufferWidth, bufferPosition, taskCount, taskWidth, taskPosition}
 use Rattle.records.specs.Split.{shareOfSlot, firstBuffer, shareLimit}
 use Rattle.records.specs.Records.{State, Queue, Buffer, Task, freeQueue, freshTask, isLive, hasPriority}
 use Rattle.records.specs.Bytes.{decodeQueues, decodeTasks}

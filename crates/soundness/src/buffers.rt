@@ -10,7 +10,9 @@ ghost use Rattle.records.specs.Bytes.{decodeBuffer, decodeQueues, decodePool};
 ghost use Rattle.specification.specs.Sound.{freeBufferRules, soundBuffer};
 ghost use Rattle.soundness.specs.Parts.{onlyQueues, poolPositions, usedBufferTests, bufferTests, queueRanked};
 use crate::ranked::every_ranked;
-use records::bytes::wide;
+use bytes::numbers::wide;
+use bytes::zeros::four_zeros;
+use bytes::zeros::zeros_from;
 use records::layout::BUFFER_COUNT;
 use records::layout::BUFFER_DATA;
 use records::layout::BUFFER_LENGTH;
@@ -21,8 +23,6 @@ use records::queue::QueueRecord;
 use records::queue::read_queue;
 use records::shares::owns_buffer;
 use records::shares::share_of_slot;
-use records::zeros::four_zeros;
-use records::zeros::zeros_from;
 
 // A buffer with no owner.
 fn free_buffer_sound(r: &[u8]) -> bool

@@ -9,8 +9,8 @@ ghost use Rattle.records.specs.Layout.{slotCount, queuesSize, taskCount, tasksS
 ghost use Rattle.records.specs.Bytes.{decodeQueues, decodeTasks, decodeQueueAt};
 ghost use Rattle.specification.specs.Sound.{byPriority};
 ghost use Rattle.soundness.specs.Parts.{onlyTasks, taskPositions, queueRanked, queueInOrder, OneAtRank, PrioritiesAtRanks};
-use records::bytes::wide;
-use records::layout::BYTE_VALUES;
+use bytes::numbers::BYTE_VALUES;
+use bytes::numbers::wide;
 use records::layout::SLOT_COUNT;
 use records::layout::TASK_COUNT;
 use records::queue::read_queue;

@@ -10,10 +10,14 @@ ghost use Rattle.records.specs.Bytes.{decodeTask, decodeQueues, decodeTasks};
 ghost use Rattle.specification.specs.Sound.{taskRules, readyTaskRules, soundTask};
 ghost use Rattle.soundness.specs.Parts.{onlyQueues, taskPositions, waitingTaskTests, taskTests, queueRanked};
 use crate::ranked::every_ranked;
-use records::bytes::wide;
+use bytes::numbers::wide;
+use bytes::zeros::eight_zeros;
+use bytes::zeros::four_zeros;
+use bytes::zeros::two_zeros;
 use records::layout::CAPACITY;
 use records::layout::SLOT_COUNT;
 use records::layout::TASK_COUNT;
+use records::layout::TASK_LENGTH;
 use records::layout::TASK_POSITION;
 use records::layout::TASK_WIDTH;
 use records::queue::QueueRecord;
@@ -26,9 +30,6 @@ use records::status::TIMEOUT;
 use records::status::WAITING;
 use records::task::READY_STATE;
 use records::task::WAITING_STATE;
-use records::zeros::eight_zeros;
-use records::zeros::four_zeros;
-use records::zeros::two_zeros;
 
 // A task that does not wait. The bytes that have to be zero stand side by side, so that they are tested together.
 fn ready_task_sound(r: &[u8]) -> bool
@@ -43,7 +44,7 @@ fn ready_task_sound(r: &[u8]) -> bool
         & eight_zeros(r, 8)
         & (1 <= r[3])
         & ((r[4] == SUCCESSFUL) | (r[4] == TIMEOUT) | (r[4] == OBJECT_WAS_DELETED))
-        & (r[5] <= CAPACITY as u8)
+        & (r[TASK_LENGTH] <= CAPACITY as u8)
 }
 
 // Task t, which names the queue in the slot, is as its rules say, and its rank is below the queue's count.
@@ -53,7 +54,7 @@ fn waiting_task_sound(q: QueueRecord, slot: usize, t: usize, r: &[u8]) -> bool
 {
     let own = share_of_slot(slot) == share_of_task(t);
     ((1 <= r[3]) & two_zeros(r, 6) & four_zeros(r, 12))
-        & (q.is_live() & (own | q.is_open()) & (r[4] == WAITING) & (r[5] == 0))
+        & (q.is_live() & (own | q.is_open()) & (r[4] == WAITING) & (r[TASK_LENGTH] == 0))
         & (r[TASK_POSITION + 1] < q.waiters)
 }
 

@@ -14,6 +14,7 @@ use mathlib.Core.List.{map-append}
 use Rattle.ranks.specs.Lists
 use Rattle.ranks.specs.Table
 use Rattle.ranks.specs.Steps
+use Rattle.bytes.specs.LittleEndian
 use Rattle.records.specs.Split
 use Rattle.records.specs.Layout
 use Rattle.records.specs.Records
@@ -49,7 +50,7 @@ observedOnRecords k =
 
 -- a statement that is proved by computing with all the definitions
 unfoldable Computed : Type 0 → Type 0
-unfolding Lists._implies_ Lists.within Lists.mapFromIndex Lists.mapWithIndex Lists.allTrue Lists.countTrue Lists.firstTrue Lists.mask Lists.sumOf Lists.minimum Lists.allZero Lists.numbersFrom Steps.inserted Steps.takenOut Steps.ranked Split.shareOfSlot Split.shareOfBuffer Split.shareOfTask Split.shareLimit Layout.idOf Records.fresh Records.sizeAllowed Answer.refuseIfAny Sound.freeQueueRules Sound.liveQueueRules Sound.soundQueue Sound.limits Sound.soundLimits Sound.freeBufferRules Sound.usedBufferRules Sound.soundBuffer Sound.byPriority Sound.soundRanks Sound.taskRules Sound.readyTaskRules Sound.waitingTaskRules Sound.soundTask Sound.sound Lookup.usable Lookup.isForeign Lookup.firstWaiter Lookup.firstMessage Lookup.waitersOf Lookup.leave Lookup.withoutWaiters Lookup.withoutMessages Create.freeSlot Create.refusals Create.effect Delete.refusals Delete.effect Submit.freeBufferOf Submit.refusals Submit.delivered Submit.enqueued Submit.effect Broadcast.refusals Broadcast.effect Receive.refusals Receive.received Receive.waitRank Receive.waiting Receive.effect GetNumberPending.effect Flush.refusals Flush.effect Tick.tickTask Tick.tickTasks Tick.effect Step.badCaller Step.commonRefusals Step.operationRefusals Step.directiveRefusals Step.ownRefusals Step.operationEffect Step.effect OnRecords.callOnRecords OnRecords.eventsOnRecords OnRecords.stateAfter Table.slice Bytes.toLittleEndian Bytes.encodeQueue Bytes.encodeBuffer Bytes.encodeTask recordBytes excerptOnRecords observedOnRecords Cases.expected
+unfolding Lists._implies_ Lists.within Lists.mapFromIndex Lists.mapWithIndex Lists.allTrue Lists.countTrue Lists.firstTrue Lists.mask Lists.sumOf Lists.minimum Lists.allZero Lists.numbersFrom Steps.inserted Steps.takenOut Steps.ranked Split.shareOfSlot Split.shareOfBuffer Split.shareOfTask Split.shareLimit Layout.idOf Records.fresh Records.sizeAllowed Answer.refuseIfAny Sound.freeQueueRules Sound.liveQueueRules Sound.soundQueue Sound.limits Sound.soundLimits Sound.freeBufferRules Sound.usedBufferRules Sound.soundBuffer Sound.byPriority Sound.soundRanks Sound.taskRules Sound.readyTaskRules Sound.waitingTaskRules Sound.soundTask Sound.sound Lookup.usable Lookup.isForeign Lookup.firstWaiter Lookup.firstMessage Lookup.waitersOf Lookup.leave Lookup.withoutWaiters Lookup.withoutMessages Create.freeSlot Create.refusals Create.effect Delete.refusals Delete.effect Submit.freeBufferOf Submit.refusals Submit.delivered Submit.enqueued Submit.effect Broadcast.refusals Broadcast.effect Receive.refusals Receive.received Receive.waitRank Receive.waiting Receive.effect GetNumberPending.effect Flush.refusals Flush.effect Tick.tickTask Tick.tickTasks Tick.effect Step.badCaller Step.commonRefusals Step.operationRefusals Step.directiveRefusals Step.ownRefusals Step.operationEffect Step.effect OnRecords.callOnRecords OnRecords.eventsOnRecords OnRecords.stateAfter Table.slice LittleEndian.toLittleEndian Bytes.encodeQueue Bytes.encodeBuffer Bytes.encodeTask recordBytes excerptOnRecords observedOnRecords Cases.expected
 Computed P = P
 
 paper-cases : Computed (map observedOnRecords paperCases ≡ map expected paperCases)

@@ -1,7 +1,7 @@
 -- Document 01, "Runs": "A call is its directive, its caller and its arguments, with a message's bytes."
 use Rattle.ranks.specs.Prelude.{ℕ, Bool, true, List, [], _∷_, map, _&&_, ltb}
 use Rattle.ranks.specs.Lists.{allTrue}
-use Rattle.records.specs.Layout.{byteValues}
+use Rattle.bytes.specs.LittleEndian.{byteValues}
 
 -- what is done to a queue that is named by its id
 pub data Operation : Type 0 where

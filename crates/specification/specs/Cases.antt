@@ -169,7 +169,7 @@ paperCases =
     -- W7 limit 2, third send: 5.
     ∷ case
     (createBy 0 2 8 0 gives value 16 ∷ sendBy 0 16 A gives done ∷ sendBy 0 16 B gives done ∷ sendBy 0 16 C gives refused 5 ∷ [])
-    (inQueueRecord 0 6 (2 ∷ 0 ∷ []) ∷ inBuffer 2 0 (zeros 128) ∷ [])
+    (inQueueRecord 0 6 (2 ∷ 0 ∷ []) ∷ inBuffer 2 0 (zeros bufferWidth) ∷ [])
     -- W8 limit 16, then limit 1 in the share: 6; after a delete, 0.
     ∷ case
     (createBy 0 16 8 0 gives value 16 ∷ createBy 0 1 8 0 gives refused 6
@@ -224,7 +224,7 @@ errorCases =
     case
     (createBy 0 2 1 0 gives value 16 ∷ waitBy 1 16 0 gives waits ∷ sendBy 0 16 AB gives refused 3 ∷ urgentBy 0 16 AB gives refused 3
     ∷ broadcastBy 0 16 AB gives refused 3 ∷ sendBy 0 16 [] gives refused 3 ∷ [])
-    (inTask 1 0 (1 ∷ 1 ∷ 0 ∷ 2 ∷ 14 ∷ zeros 131) ∷ inQueueRecord 0 6 (0 ∷ 1 ∷ []) ∷ inBuffer 0 0 (zeros 128) ∷ [])
+    (inTask 1 0 (1 ∷ 1 ∷ 0 ∷ 2 ∷ 14 ∷ zeros 131) ∷ inQueueRecord 0 6 (0 ∷ 1 ∷ []) ∷ inBuffer 0 0 (zeros bufferWidth) ∷ [])
     -- T2 "a tick that skips the next waiter after taking one out": all whose last tick it is leave together, wherever they stand and in whatever
     -- queue; the others keep their order.
     ∷ case
@@ -239,7 +239,7 @@ errorCases =
     ∷ case
     (createBy 8 4 8 2 gives value 20 ∷ sendBy 0 20 A gives done ∷ urgentBy 24 20 B gives done ∷ pendingBy 16 20 gives value 2
     ∷ broadcastBy 0 20 C gives value 0 ∷ pollBy 31 20 gives value 1 ∷ [])
-    (inBuffer 16 0 (5 ∷ 0 ∷ 1 ∷ zeros 5 ++ A) ∷ inBuffer 17 0 (zeros 128) ∷ inBuffer 0 0 (zeros 128) ∷ inBuffer 48 0 (zeros 128)
+    (inBuffer 16 0 (5 ∷ 0 ∷ 1 ∷ zeros 5 ++ A) ∷ inBuffer 17 0 (zeros bufferWidth) ∷ inBuffer 0 0 (zeros bufferWidth) ∷ inBuffer 48 0 (zeros bufferWidth)
     ∷ inTask 31 16 B ∷ [])
     -- T4 "urgent reordering waiters": send and urgent wake the first waiter and leave the others in their order.
     ∷ case

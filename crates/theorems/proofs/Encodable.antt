@@ -10,7 +10,8 @@ use borrow.Author.Tests.{ltb-true}
 use Rattle.ranks.specs.Lists.{if_then_else_, mapWithIndex, allTrue, numbersFrom}
 use Rattle.ranks.specs.Position.{Position, inQueue}
 use Rattle.records.specs.Split.{shareOfTask}
-use Rattle.records.specs.Layout.{slotOf, capacity, slotCount, bufferCount, taskCount, byteValues, lastGeneration}
+use Rattle.bytes.specs.LittleEndian.{byteValues}
+use Rattle.records.specs.Layout.{slotOf, capacity, slotCount, bufferCount, taskCount, lastGeneration}
 use Rattle.records.specs.Records.{Queue, Buffer, Task, State, queueAt, bufferAt, taskAt, freeQueue, freeBuffer, freshTask}
 use Rattle.records.specs.Changes.{atIndex, overwriteFront, moveBuffer, messageBuffer, moveTask, readyWith, withMessage}
 use Rattle.records.specs.InRange.{AllBytes}

@@ -11,7 +11,8 @@ use lib.ListN.{length, length-map}
 use borrow.Author.Tests.{eqb-true}
 use Rattle.ranks.specs.Lists.{allZero}
 use Rattle.ranks.specs.Table.{records}
-use Rattle.records.specs.Layout.{largestLimit, slotCount, queueWidth, bufferCount, bufferWidth, taskCount, taskWidth, byteValues, capacity}
+use Rattle.bytes.specs.LittleEndian.{byteValues}
+use Rattle.records.specs.Layout.{largestLimit, slotCount, queueWidth, bufferCount, bufferWidth, taskCount, taskWidth, capacity}
 use Rattle.records.specs.Records.{State, queueAt, bufferAt, taskAt}
 use Rattle.records.specs.Bytes.{Tables, decodeQueue, decodeBuffer, decodeTask, decode, encode}
 use Rattle.records.specs.InRange.{AllBytes, ByteTables, ByteList, QueueInRange, BufferInRange, TaskInRange, FieldsInRange}

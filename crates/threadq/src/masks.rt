@@ -13,8 +13,8 @@ pub fn task_bit(t: usize) -> u32
     1 << t
 }
 
-// How many tasks a mask has: its ones.
-pub fn tasks_in(m: u32) -> u32
+// How many ones a mask has: one for each of its tasks.
+pub fn ones_in(m: u32) -> u32
     ensures { λ r. ⌜ r ≡ ones m ⌝ }
 {
     u32::count_ones(m)

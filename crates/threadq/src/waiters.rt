@@ -1,4 +1,4 @@
-// Tasks that wait in a queue, and how they come and go.
+// Tasks that wait in a queue: found, given a message, made ready.
 ghost use mathlib.Core.Path.{_≡_};
 ghost use Prim.Native.Nat.{_<_, _≤_};
 ghost use lib.ListN.{length};

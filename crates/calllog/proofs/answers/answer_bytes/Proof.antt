@@ -1,6 +1,6 @@
 -- `calllog::answers::answer_bytes` meets its contract. Assumes nothing.
 use borrow.Author.Needs.{needs}
-use Rattle.records.specs.Bytes.{toLittleEndian}
+use Rattle.bytes.specs.LittleEndian.{toLittleEndian}
 use Rattle.calllog.specs.CallLog.{answerBytes}
 use Rattle.calllog.proofs.answers.answer_bytes.Statement.{statement}
 use Rattle.calllog.proofs.answers.answer_bytes.Tie as tie

@@ -1,12 +1,10 @@
 -- `coremsg::messages::belongs_to` meets its contract. Assumes nothing.
-use Prim.Native.Nat.{ℕ, _*_}
-use mathlib.Core.Path.{sym, ap, ap₂, _∙_}
+use Prim.Native.Nat.{_*_}
+use mathlib.Core.Path.{sym, ap₂}
 use mathlib.Core.Bool.{Bool}
-use native.Mathlib.Nat.{add-zero}
 use native.Mathlib.Omega.{arith}
 use native.Mathlib.Numerals.{add-one}
 use lib.Dec.{eqb}
-use Rattle.ranks.specs.Table.{byte}
 use Rattle.ranks.proofs.Table.{byte-slice}
 use Rattle.records.specs.Layout.{bufferPosition, bufferWidth}
 use Rattle.records.specs.Bytes.{decodeBuffer}
@@ -18,9 +16,8 @@ returns : tie.Need-returns
 unfolding decodeBuffer
 returns c =
     let a = c .before .args in
-    let at = a .b * bufferWidth in
-    ap₂ {C = Bool} eqb (ap (λ (k : ℕ). byte k (a .pool .now)) (sym (add-zero at)) ∙ sym (byte-slice at bufferWidth (a .pool .now) bufferPosition (omega arith))) (add-one (a .slot))
+    ap₂ {C = Bool} eqb (sym (byte-slice (a .b * bufferWidth) bufferWidth (a .pool .now) bufferPosition (omega arith))) (add-one (a .slot))
 
 pub belongs-to-spec : {M : Type 1} → statement M
 belongs-to-spec =
-    tie.close (tie.spec (search needs) (search needs) (search needs) (search needs) returns)
+    tie.close (tie.spec (search needs) (search needs) (search needs) (search needs) (search needs) returns)

@@ -2,10 +2,8 @@
 use Prim.Native.Nat.{ℕ, _*_}
 use mathlib.Core.Path.{sym, ap, ap₂, _∙_}
 use mathlib.Core.Bool.{Bool, _&&_}
-use native.Mathlib.Nat.{add-zero}
 use native.Mathlib.Omega.{arith}
 use lib.Dec.{eqb}
-use Rattle.ranks.specs.Table.{byte}
 use Rattle.ranks.proofs.Table.{byte-slice}
 use Rattle.records.specs.Layout.{bufferPosition, bufferWidth}
 use Rattle.records.specs.Split.{shareOfBuffer}
@@ -19,11 +17,10 @@ returns : tie.Need-returns
 unfolding decodeBuffer
 returns c =
     let a = c .before .before .before .args in
-    let at = a .b * bufferWidth in
     ap₂ {C = Bool} _&&_
-    (ap (λ (n : ℕ). eqb n 0) (ap (λ (k : ℕ). byte k (a .pool .now)) (sym (add-zero at)) ∙ sym (byte-slice at bufferWidth (a .pool .now) bufferPosition (omega arith))))
+    (ap (λ (n : ℕ). eqb n 0) (sym (byte-slice (a .b * bufferWidth) bufferWidth (a .pool .now) bufferPosition (omega arith))))
     (c .owns-buffer .ensures ∙ swapped (a .share) (shareOfBuffer (a .b)))
 
 pub is-free-spec : {M : Type 1} → statement M
 is-free-spec =
-    tie.close (tie.spec (search needs) (search needs) (search needs) returns)
+    tie.close (tie.spec (search needs) (search needs) (search needs) (search needs) returns)

@@ -67,7 +67,7 @@ returns c =
     let s = entry (c .before .before .before) in
     let a = s .args in
     let woken = c .before .before .before .expired-mask in
-    tick-done (a .queues .now) (a .pool .now) (a .tasks .now) (v .queues) (v .tasks) (v .t) (v .inv) (omega arith) (s .pre .0) (λ i. c .before .before .before .before .before .before .shared-slice-known .given i .fits) (c .tasks-in .result) (woken .result) (c .tasks-in .ensures) (woken .ensures)
+    tick-done (a .queues .now) (a .pool .now) (a .tasks .now) (v .queues) (v .tasks) (v .t) (v .inv) (omega arith) (s .pre .0) (λ i. c .before .before .before .before .before .before .shared-slice-known .given i .fits) (c .ones-in .result) (woken .result) (c .ones-in .ensures) (woken .ensures)
 
 pub tick-spec : {M : Type 1} → statement M
 tick-spec =

@@ -50,7 +50,7 @@ returns-2 c =
     let s = start q in
     broadcast-done (given s) (s .args .caller) (s .args .id) (q .read-queue .result) (q .read-queue .ensures) (s .args .message .now) (tells (done .before .before .before .enum-told .given .1) (done .before .before .before .before .before .refusal .ensures)) _
     (as-encoded (s .pre) _ _ _ (done .hand-to-all .kept .0) refl (done .hand-to-all .kept .1 .0) (λ i. c .before .before .before .slice-known3 .given i .fits) (λ i. q .before .before .before .before .shared-slice-known .given i .fits) (λ i. c .before .slice-known4 .given i .fits))
-    (c .tasks-in .result) (done .hand-to-all .result) (c .tasks-in .ensures) (done .hand-to-all .ensures .0) (done .hand-to-all .ensures .1 (s .args .pool .now))
+    (c .ones-in .result) (done .hand-to-all .result) (c .ones-in .ensures) (done .hand-to-all .ensures .0) (done .hand-to-all .ensures .1 (s .args .pool .now))
 
 pub broadcast-spec : {M : Type 1} → statement M
 broadcast-spec = tie.close (tie.spec read-queue-requires refusal-requires (search needs) (search needs) returns (search needs) hand-to-all-requires (search needs) (search needs) (search needs) returns-2)

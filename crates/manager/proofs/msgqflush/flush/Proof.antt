@@ -16,7 +16,7 @@ use Rattle.manager.proofs.msgqflush.flush.Tie as tie
 abbrev start : tie.After-read-queue → tie.Start
 start p = p .before .before .before .before .before
 
-abbrev at-read-queue : tie.After-flush → tie.After-read-queue
+abbrev at-read-queue : tie.After-remove-messages → tie.After-read-queue
 at-read-queue p = p .before .before .before .before .before .before
 
 -- The tables at the start, and the tests of the queue that was read.
@@ -35,8 +35,8 @@ owner-refusal-requires c κs = call-facts (start c .pre) .callerBelow
 returns : tie.Need-returns
 returns c = refused-operation (tested (c .before .before .before .before)) _ (tells (c .before .verdict .given .1) (c .before .before .before .owner-refusal .ensures))
 
-flush-requires : tie.Need-flush-requires
-flush-requires c κs = let known = call-facts (start (c .before .before .before .before .before) .pre) in (omega arith, (known .queuesLength, known .poolLength))
+remove-messages-requires : tie.Need-remove-messages-requires
+remove-messages-requires c κs = let known = call-facts (start (c .before .before .before .before .before) .pre) in (omega arith, (known .queuesLength, known .poolLength))
 
 returns-2 : tie.Need-returns-2
 returns-2 c =
@@ -44,8 +44,8 @@ returns-2 c =
     let q = at-read-queue done in
     let s = start q in
     flush-done (given s) (s .args .caller) (s .args .id) (q .read-queue .result) (q .read-queue .ensures) (tells (done .before .before .before .enum-told .given .1) (done .before .before .before .before .before .owner-refusal .ensures)) _
-    (as-encoded (s .pre) _ _ _ (done .flush .kept .0) (done .flush .kept .1 .0) refl (λ i. c .before .before .slice-known3 .given i .fits) (λ i. c .slice-known4 .given i .fits) (λ i. q .before .before .shared-slice-known .given i .fits))
-    (done .flush .result) (done .flush .ensures .0) (done .flush .ensures .1 (s .args .tasks .now))
+    (as-encoded (s .pre) _ _ _ (done .remove-messages .kept .0) (done .remove-messages .kept .1 .0) refl (λ i. c .before .before .slice-known3 .given i .fits) (λ i. c .slice-known4 .given i .fits) (λ i. q .before .before .shared-slice-known .given i .fits))
+    (done .remove-messages .result) (done .remove-messages .ensures .0) (done .remove-messages .ensures .1 (s .args .tasks .now))
 
 pub flush-spec : {M : Type 1} → statement M
-flush-spec = tie.close (tie.spec read-queue-requires owner-refusal-requires (search needs) (search needs) returns (search needs) flush-requires (search needs) (search needs) (search needs) returns-2)
+flush-spec = tie.close (tie.spec read-queue-requires owner-refusal-requires (search needs) (search needs) returns (search needs) remove-messages-requires (search needs) (search needs) (search needs) returns-2)

@@ -3,9 +3,10 @@ use mathlib.Core.Path.{_≡_}
 use Prim.Native.Nat.{ℕ}
 use lib.ListN.{length}
 use borrow.Author.Needs.{needs, length-unmapped}
-use Rattle.records.specs.Bytes.{encodeQueue, toLittleEndian}
+use Rattle.bytes.specs.LittleEndian.{toLittleEndian}
+use Rattle.records.specs.Bytes.{encodeQueue}
 use Rattle.records.proofs.DecodeEncode.{QueueEncodable, decode-encode-queue, length-queue}
-use Rattle.records.proofs.Writing
+use Rattle.bytes.proofs.NumberBytes
 use Rattle.records.proofs.queue.encode_queue.Statement.{statement}
 use Rattle.records.proofs.queue.encode_queue.Tie as tie
 
@@ -20,7 +21,7 @@ returns c =
     let n = c .before .bytes-of-u32 .ensures in
     let q = s .args .q in
     let fit : QueueEncodable q = record { generation = g .1; name = n .1; reserved = four-spare s } in
-    (rw (g .0, n .0, ← Writing.all-four (q .reserved) (four-spare s)), (decode-encode-queue q fit, length-queue q fit))
+    (rw (g .0, n .0, ← NumberBytes.all-four (q .reserved) (four-spare s)), (decode-encode-queue q fit, length-queue q fit))
 
 pub encode-queue-spec : {M : Type 1} → statement M
 encode-queue-spec =

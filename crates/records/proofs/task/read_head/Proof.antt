@@ -6,14 +6,14 @@ use borrow.Author.Needs.{needs}
 use Rattle.records.specs.Layout.{taskWidth}
 use Rattle.records.specs.Bytes.{decodeTask}
 use Rattle.records.specs.TaskHeads.{headOf}
-use Rattle.records.proofs.Writing
+use Rattle.bytes.proofs.NumberBytes
 use Rattle.records.proofs.task.read_head.Statement.{statement}
 use Rattle.records.proofs.task.read_head.Tie as tie
 
 returns : tie.Need-returns
 returns c =
     let a = c .before .before .before .args in
-    c .decode-head .ensures ∙ ap (λ (r : List ℕ). headOf (decodeTask r)) (Writing.slice-lent (a .tasks .now) (a .t * taskWidth) taskWidth)
+    c .decode-head .ensures ∙ ap (λ (r : List ℕ). headOf (decodeTask r)) (NumberBytes.slice-lent (a .tasks .now) (a .t * taskWidth) taskWidth)
 
 pub read-head-spec : {M : Type 1} → statement M
 read-head-spec =

@@ -6,7 +6,8 @@ use borrow.Author.Needs.{needs}
 use Rattle.ranks.specs.Table.{slice}
 use Rattle.records.specs.Layout.{taskCount, taskWidth}
 use Rattle.records.specs.Records.{freshTask}
-use Rattle.records.specs.Bytes.{decodeTask, fromLittleEndian}
+use Rattle.bytes.specs.LittleEndian.{fromLittleEndian}
+use Rattle.records.specs.Bytes.{decodeTask}
 use Rattle.records.proofs.Writing
 use Rattle.records.proofs.task.write_fresh_task.Statement.{statement}
 use Rattle.records.proofs.task.write_fresh_task.Tie as tie

@@ -5,7 +5,8 @@ use native.Mathlib.Omega.{arith}
 use mathlib.Core.Path.{_≡_, sym, ap, ap₂, subst, _∙_}
 use mathlib.Core.Logic.{⊎-elim}
 use lib.ListN.{length, getD, set, length-set, length-replicate}
-use Rattle.records.specs.Layout.{byteValues, taskCount, taskWidth}
+use Rattle.bytes.specs.LittleEndian.{byteValues}
+use Rattle.records.specs.Layout.{taskCount, taskWidth}
 use Rattle.records.specs.declared.task.TaskHead.{TaskHead}
 use Rattle.records.specs.Records.{Task, freshTask}
 use Rattle.records.specs.Bytes.{decodeTask, decodeTasks}

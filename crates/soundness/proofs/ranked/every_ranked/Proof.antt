@@ -1,5 +1,5 @@
 -- `soundness::ranked::every_ranked` meets its contract. Assumes nothing.
-use Prim.Native.Nat.{ℕ, _+_, _*_, _≤_, _<_, _-_}
+use Prim.Native.Nat.{ℕ, _+_, _*_, _<_, _-_}
 use native.Mathlib.Omega.{arith}
 use mathlib.Core.Path.{_≡_, refl, sym, _∙_}
 use mathlib.Core.Logic.{⊎-elim}
@@ -10,7 +10,8 @@ use Rattle.ranks.specs.Position.{Position}
 use Rattle.ranks.specs.Table.{records}
 use Rattle.ranks.proofs.Searches.{AllBelow, all-below, answered, one-more-passes, all-pass, one-fails}
 use Rattle.ranks.proofs.Table.{position-inside}
-use Rattle.records.specs.Layout.{byteValues, slotCount, queueWidth}
+use Rattle.bytes.specs.LittleEndian.{byteValues}
+use Rattle.records.specs.Layout.{slotCount, queueWidth}
 use Rattle.records.specs.Records.{freeQueue}
 use Rattle.records.specs.Bytes.{decodeQueue, decodeQueues}
 use Rattle.records.proofs.Writing.{at-table, length-decoded}

@@ -1,0 +1,14 @@
+-- `bytes::zeros::two_zeros` meets its contract. Assumes nothing.
+use Prim.Native.Nat.{ℕ}
+use mathlib.Core.Path.{ap, _∙_}
+use lib.Dec.{eqb}
+use Rattle.bytes.proofs.ZeroBytes.{zero-number}
+use borrow.Author.Needs.{needs}
+use Rattle.bytes.proofs.zeros.two_zeros.Statement.{statement}
+use Rattle.bytes.proofs.zeros.two_zeros.Tie as tie
+
+returns : tie.Need-returns
+returns c = ap (λ (n : ℕ). eqb n 0) (c .read-u16 .ensures) ∙ zero-number _
+
+pub two-zeros-spec : {M : Type 1} → statement M
+two-zeros-spec = tie.close (tie.spec (search needs) returns)

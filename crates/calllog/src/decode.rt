@@ -61,7 +61,7 @@ fn keeps_row(operation: usize, r: &[u8]) -> bool
 }
 
 // The call of a record's operation.
-fn call_of(r: &[u8]) -> LogResult
+fn call_in(r: &[u8]) -> LogResult
     requires { ⌜ length (now r) ≡ recordWidth ⌝ }
     ensures { λ x. ⌜ x ≡ callIn (now (r .entry)) ⌝ }
 {
@@ -132,7 +132,7 @@ fn decode_record(r: &[u8]) -> LogResult
     if !keeps_row(operation, r) {
         return LogResult::Malformed;
     }
-    call_of(r)
+    call_in(r)
 }
 
 // What stands at a place of a log.

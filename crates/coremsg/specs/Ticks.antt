@@ -14,7 +14,7 @@ abbrev pub NamesSlot : Task → Type 0
 NamesSlot w = isWaiting w ≡ true → (1 ≤ w .position .queue) × (w .position .queue ≤ slotCount)
 
 -- The tables' lengths, and a task that names a slot if it waits.
-pub record TickPlace (queues tasks : List ℕ) (t : ℕ) : Type 0 where
+pub record TickedTask (queues tasks : List ℕ) (t : ℕ) : Type 0 where
   pub taskBelow : t < taskCount
   pub queuesLength : length queues ≡ queuesSize
   pub tasksLength : length tasks ≡ tasksSize

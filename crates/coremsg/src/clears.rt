@@ -50,9 +50,9 @@ pub fn close(queues: &mut [u8], pool: &mut [u8], tasks: &mut [u8], slot: usize) 
     ensures { λ r. ⌜ (r ≡ mask (waitersOf slot (decodeTasks (now (tasks .entry))))) × (decode (tables (now (queues .exit)) (now (pool .exit)) (now (tasks .exit)))
         ≡ Delete.effect (decode (tables (now (queues .entry)) (now (pool .entry)) (now (tasks .entry)))) slot .after) ⌝ }
 {
-    let waiters = waiters_mask(tasks, slot);
+    let made_ready = waiters_mask(tasks, slot);
     ready_all(tasks, slot, OBJECT_WAS_DELETED);
     clear_messages(pool, slot);
     free_record(queues, slot);
-    waiters
+    made_ready
 }

@@ -14,7 +14,7 @@ ghost use Rattle.records.specs.Changes.{changeAt, readyWith, withMessage, waiti
 ghost use Rattle.specification.specs.Lookup.{leave};
 ghost use Rattle.specification.specs.Receive.{received, waitRank, waiting};
 ghost use Rattle.specification.specs.Submit.{delivered, enqueued};
-ghost use Rattle.coremsg.specs.Places.{TaskPlace, MessagePlace};
+ghost use Rattle.coremsg.specs.StepRecords.{QueueAndTask, QueueAndBuffer};
 use bytes::numbers::wide;
 use objects::counts::one_less_message;
 use objects::counts::one_less_waiter;
@@ -59,7 +59,7 @@ fn enter(tasks: &mut [u8], t: usize, slot: usize, rank: u8, ticks: u32)
 
 // The caller waits in the queue of the slot. Its rank.
 pub fn wait_in(queues: &mut [u8], tasks: &mut [u8], caller: usize, slot: usize, ticks: u32) -> u8
-    requires { ⌜ TaskPlace (now queues) (now tasks) slot caller × (Room taskPosition slot (records taskCount taskWidth (now tasks)) × (decodeQueueAt slot (now queues) .waiters < 255)) ⌝ }
+    requires { ⌜ QueueAndTask (now queues) (now tasks) slot caller × (Room taskPosition slot (records taskCount taskWidth (now tasks)) × (decodeQueueAt slot (now queues) .waiters < 255)) ⌝ }
     ensures { λ r. ⌜ ((pool : List ℕ) → (r ≡ waitRank (decode (tables (now (queues .entry)) pool (now (tasks .entry)))) caller slot)
         × (decode (tables (now (queues .exit)) pool (now (tasks .exit)))
         ≡ waiting (decode (tables (now (queues .entry)) pool (now (tasks .entry)))) caller slot r ticks .after)) ⌝ }
@@ -89,7 +89,7 @@ fn take_out_task(tasks: &mut [u8], t: usize, slot: usize, rank: u8)
 
 // Task t, the first waiter of the queue in the slot, gets the message and leaves.
 pub fn hand_over(queues: &mut [u8], tasks: &mut [u8], t: usize, slot: usize, message: &[u8])
-    requires { ⌜ TaskPlace (now queues) (now tasks) slot t × (length (now message) ≤ capacity) ⌝ }
+    requires { ⌜ QueueAndTask (now queues) (now tasks) slot t × (length (now message) ≤ capacity) ⌝ }
     ensures { λ _. ⌜ ((pool : List ℕ) → decode (tables (now (queues .exit)) pool (now (tasks .exit)))
         ≡ delivered (decode (tables (now (queues .entry)) pool (now (tasks .entry)))) t slot (now (message .entry)) .after) ⌝ }
 {
@@ -100,7 +100,7 @@ pub fn hand_over(queues: &mut [u8], tasks: &mut [u8], t: usize, slot: usize, mes
 
 // Task t leaves the queue of the slot, where it stands at the rank, and becomes ready with the status.
 pub fn leave(queues: &mut [u8], tasks: &mut [u8], t: usize, slot: usize, rank: u8, status: u8)
-    requires { ⌜ TaskPlace (now queues) (now tasks) slot t ⌝ }
+    requires { ⌜ QueueAndTask (now queues) (now tasks) slot t ⌝ }
     ensures { λ _. ⌜ ((pool : List ℕ) → decode (tables (now (queues .exit)) pool (now (tasks .exit)))
         ≡ leave (decode (tables (now (queues .entry)) pool (now (tasks .entry)))) t slot rank (readyWith status)) ⌝ }
 {
@@ -111,7 +111,7 @@ pub fn leave(queues: &mut [u8], tasks: &mut [u8], t: usize, slot: usize, rank: u
 
 // The message is put into buffer b, at this rank of the queue in the slot.
 pub fn put_into(queues: &mut [u8], pool: &mut [u8], b: usize, slot: usize, rank: u8, message: &[u8])
-    requires { ⌜ MessagePlace (now queues) (now pool) slot b × ((length (now message) ≤ capacity)
+    requires { ⌜ QueueAndBuffer (now queues) (now pool) slot b × ((length (now message) ≤ capacity)
         × (Room bufferPosition slot (records bufferCount bufferWidth (now pool)) × (decodeQueueAt slot (now queues) .pending < 255))) ⌝ }
     ensures { λ _. ⌜ ((tasks : List ℕ) → decode (tables (now (queues .exit)) (now (pool .exit)) tasks)
         ≡ enqueued (decode (tables (now (queues .entry)) (now (pool .entry)) tasks)) b slot rank (now (message .entry)) .after) ⌝ }
@@ -150,7 +150,7 @@ fn copy_message(tasks: &mut [u8], t: usize, pool: &[u8], b: usize) -> usize
 }
 
 // Buffer b leaves the queue in the slot, where it stands at rank 0, and is zeroed; those behind move up.
-fn remove_message(pool: &mut [u8], slot: usize, b: usize)
+fn take_out_message(pool: &mut [u8], slot: usize, b: usize)
     requires { ⌜ (slot < slotCount) × ((b < bufferCount) × (length (now pool) ≡ poolSize)) ⌝ }
     ensures { λ _. ⌜ decodePool (now (pool .exit)) ≡ takeOutBuffer b slot 0 (λ _. freeBuffer) (decodePool (now (pool .entry))) ⌝ }
 {
@@ -175,13 +175,13 @@ pub fn take_first(
     slot: usize,
     b: usize,
 ) -> usize
-    requires { ⌜ TaskPlace (now queues) (now tasks) slot caller × (MessagePlace (now queues) (now pool) slot b × (decodeBufferAt b (now pool) .messageLength ≤ capacity)) ⌝ }
+    requires { ⌜ QueueAndTask (now queues) (now tasks) slot caller × (QueueAndBuffer (now queues) (now pool) slot b × (decodeBufferAt b (now pool) .messageLength ≤ capacity)) ⌝ }
     ensures { λ r. ⌜ (r ≡ bufferAt (decode (tables (now (queues .entry)) (now (pool .entry)) (now (tasks .entry)))) b .messageLength)
         × (decode (tables (now (queues .exit)) (now (pool .exit)) (now (tasks .exit)))
         ≡ received (decode (tables (now (queues .entry)) (now (pool .entry)) (now (tasks .entry)))) caller slot b .after) ⌝ }
 {
     let n = copy_message(tasks, caller, pool, b);
-    remove_message(pool, slot, b);
+    take_out_message(pool, slot, b);
     one_less_message(queues, slot);
     n
 }

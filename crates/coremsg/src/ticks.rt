@@ -7,7 +7,7 @@ ghost use Rattle.ranks.specs.Lists.{mask};
 ghost use Rattle.records.specs.Layout.{tasksSize};
 ghost use Rattle.records.specs.Bytes.{tables, decodeTasks, decode};
 ghost use Rattle.specification.specs.Tick.{isLastTick, isTicking, expiring, tickTask};
-ghost use Rattle.coremsg.specs.Ticks.{TickPlace, HeadRead, countedDown};
+ghost use Rattle.coremsg.specs.Ticks.{TickedTask, HeadRead, countedDown};
 use crate::steps::leave;
 use records::layout::TASK_COUNT;
 use records::status::TIMEOUT;
@@ -56,7 +56,7 @@ fn count_down(tasks: &mut [u8], t: usize, h: TaskHead)
 
 // "every waiting task with ticks above 0 loses one; all that reach 0 become ready": task t, whatever the buffers. The task that comes next.
 pub fn tick_task(queues: &mut [u8], tasks: &mut [u8], t: usize) -> usize
-    requires { ⌜ TickPlace (now queues) (now tasks) t ⌝ }
+    requires { ⌜ TickedTask (now queues) (now tasks) t ⌝ }
     ensures { λ r. ⌜ (r ≡ t + 1) × ((pool : List ℕ) → decode (tables (now (queues .exit)) pool (now (tasks .exit)))
         ≡ tickTask (decode (tables (now (queues .entry)) pool (now (tasks .entry)))) t) ⌝ }
 {

@@ -13,21 +13,21 @@ use Rattle.calllog.specs.declared.call.Call.the-variants.{By, Tick}
 use Rattle.calllog.specs.declared.call.LogResult.{LogResult}
 use Rattle.calllog.specs.declared.call.LogResult.the-variants.{WellFormed, Malformed, End}
 
--- the directive of a log's record, whose message is "in the log its first size bytes"
-unfoldable pub directiveOf : LogDirective → (message : List ℕ) → Directive
-directiveOf (Create name limit maxSize attributes) message = create name limit maxSize attributes
-directiveOf (Ident name share) message = ident name share
-directiveOf (Delete id) message = onQueue id delete
-directiveOf (Send id size) message = onQueue id (send (take size message))
-directiveOf (Urgent id size) message = onQueue id (urgent (take size message))
-directiveOf (Broadcast id size) message = onQueue id (broadcast (take size message))
-directiveOf (Receive id option ticks) message = onQueue id (receive option ticks)
-directiveOf (Pending id) message = onQueue id getNumberPending
-directiveOf (Flush id) message = onQueue id flush
+-- the directive of a log's record, whose message is "in the log its first size bytes" of the field
+unfoldable pub directiveOf : LogDirective → (field : List ℕ) → Directive
+directiveOf (Create name limit maxSize attributes) field = create name limit maxSize attributes
+directiveOf (Ident name share) field = ident name share
+directiveOf (Delete id) field = onQueue id delete
+directiveOf (Send id size) field = onQueue id (send (take size field))
+directiveOf (Urgent id size) field = onQueue id (urgent (take size field))
+directiveOf (Broadcast id size) field = onQueue id (broadcast (take size field))
+directiveOf (Receive id option ticks) field = onQueue id (receive option ticks)
+directiveOf (Pending id) field = onQueue id getNumberPending
+directiveOf (Flush id) field = onQueue id flush
 
-unfoldable pub callOf : LogCall → (message : List ℕ) → Call
-callOf (By caller directive) message = call caller (directiveOf directive message)
-callOf Tick message = tick
+unfoldable pub callOf : LogCall → (field : List ℕ) → Call
+callOf (By caller directive) field = call caller (directiveOf directive field)
+callOf Tick field = tick
 
 -- what a reader found is a call
 unfoldable pub isCall : LogResult → Bool
@@ -36,10 +36,10 @@ isCall Malformed = false
 isCall End = false
 
 -- A well-formed call is done; anything else "is 16", and is no call.
-unfoldable pub outcomeFor : Tables → LogResult → (message : List ℕ) → Outcome Tables
-outcomeFor t (WellFormed c) message = step t (callOf c message)
-outcomeFor t Malformed message = refuse t BAD-SHAPE
-outcomeFor t End message = refuse t BAD-SHAPE
+unfoldable pub outcomeFor : Tables → LogResult → (field : List ℕ) → Outcome Tables
+outcomeFor t (WellFormed c) field = step t (callOf c field)
+outcomeFor t Malformed field = refuse t BAD-SHAPE
+outcomeFor t End field = refuse t BAD-SHAPE
 
 -- the answer record of a call with the first byte given
 abbrev pub answerRecord : Answer → (firstByte : ℕ) → List ℕ

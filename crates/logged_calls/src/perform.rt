@@ -19,7 +19,7 @@ use manager::msgqsend::send;
 use manager::msgqurgent::urgent;
 
 // The first n bytes of a message field, or all of it.
-fn message_of(field: &[u8], n: u8) -> &[u8]
+fn front_of(field: &[u8], n: u8) -> &[u8]
     ensures { λ r. ⌜ now r ≡ take n (now (field .entry)) ⌝ }
 {
     let end = wide(n);
@@ -61,13 +61,13 @@ pub fn perform(
         Directive::Ident { name, share } => ident(queues, pool, tasks, caller, name, share),
         Directive::Delete { id } => delete(queues, pool, tasks, caller, id),
         Directive::Send { id, size } => {
-            send(queues, pool, tasks, caller, id, message_of(field, size))
+            send(queues, pool, tasks, caller, id, front_of(field, size))
         }
         Directive::Urgent { id, size } => {
-            urgent(queues, pool, tasks, caller, id, message_of(field, size))
+            urgent(queues, pool, tasks, caller, id, front_of(field, size))
         }
         Directive::Broadcast { id, size } => {
-            broadcast(queues, pool, tasks, caller, id, message_of(field, size))
+            broadcast(queues, pool, tasks, caller, id, front_of(field, size))
         }
         Directive::Receive { id, option, ticks } => {
             receive(queues, pool, tasks, caller, id, option as u32, ticks)

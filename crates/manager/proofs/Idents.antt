@@ -4,7 +4,6 @@ use mathlib.Core.Path.{_≡_, sym, _∙_}
 use borrow.Author.Tests.{eq-eqb, ne-eqb, le-leb, lt-leb}
 use Rattle.ranks.specs.Lists.{firstTrue, mapWithIndex}
 use Rattle.records.specs.Layout.{idOf, slotCount}
-use Rattle.records.specs.Split
 use Rattle.records.specs.Split.{shareCount}
 use Rattle.records.specs.Records.{Queue}
 use Rattle.records.specs.Bytes.{Tables, decodeQueues, decode, encode, decodeQueueAt}

@@ -25,7 +25,7 @@ use Rattle.specification.specs.Step.{directiveRefusals, operationRefusals, oper
 use Rattle.specification.proofs.Rules.{size-at-most, Unused, queue-rules, buffer-rules}
 use Rattle.specification.proofs.SoundFacts.{tasks-ranked}
 use Rattle.specification.proofs.Refused.{None, Numbered, none-holds, refuses-none}
-use Rattle.coremsg.specs.Places.{TaskPlace, MessagePlace}
+use Rattle.coremsg.specs.StepRecords.{QueueAndTask, QueueAndBuffer}
 use Rattle.coremsg.proofs.Room.{room-behind}
 use Rattle.manager.specs.Outcomes.{answerOf, outcomeOf, accepted}
 use Rattle.manager.specs.declared.answer.Answer.{Answer as CodeAnswer}
@@ -90,11 +90,11 @@ module _ {t : Tables} {caller : ℕ} (known : CallFacts t caller) where
         }
 
     -- the queue with a task, and with a buffer of it or for it
-    pub task-place : (k : ℕ) → k < taskCount → TaskPlace (t .queues) (t .tasks) slot k
-    task-place k below = record { slotBelow = h; taskBelow = below; queuesLength = known .queuesLength; tasksLength = known .tasksLength }
+    pub queue-and-task : (k : ℕ) → k < taskCount → QueueAndTask (t .queues) (t .tasks) slot k
+    queue-and-task k below = record { slotBelow = h; taskBelow = below; queuesLength = known .queuesLength; tasksLength = known .tasksLength }
 
-    pub message-place : (b : ℕ) → b < bufferCount → MessagePlace (t .queues) (t .pool) slot b
-    message-place b below = record { slotBelow = h; bufferBelow = below; queuesLength = known .queuesLength; poolLength = known .poolLength }
+    pub queue-and-buffer : (b : ℕ) → b < bufferCount → QueueAndBuffer (t .queues) (t .pool) slot b
+    queue-and-buffer b below = record { slotBelow = h; bufferBelow = below; queuesLength = known .queuesLength; poolLength = known .poolLength }
 
   -- a message in a buffer fits into a task record
   module _ (b : ℕ) (h : b < bufferCount) where

@@ -16,7 +16,7 @@ use records::status::Verdict;
 use threadq::masks::ones_in;
 
 // The tick, on sound tables.
-pub fn tick(queues: &mut [u8], pool: &[u8], tasks: &mut [u8]) -> Answer
+fn tick(queues: &mut [u8], pool: &[u8], tasks: &mut [u8]) -> Answer
     requires { ⌜ (rightLengths (tables (now queues) (now pool) (now tasks)) ≡ true) × (sound (decode (tables (now queues) (now pool) (now tasks))) ≡ true) ⌝ }
     ensures { λ r. ⌜ outcomeOf r (tables (now (queues .exit)) (now (pool .entry)) (now (tasks .exit)))
         ≡ encoded (effect (decode (tables (now (queues .entry)) (now (pool .entry)) (now (tasks .entry)))) tick) ⌝ }

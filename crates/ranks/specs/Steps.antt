@@ -1,5 +1,5 @@
 -- The rank steps: insert, take out, first. Messages and waiters share them. Insert and take out say what becomes of the position of record `j`.
-use Rattle.ranks.specs.Prelude.{ℕ, suc, _-_, _<_, _≡_, Bool, true, false, _&&_, List, [], map, getD, eqb, leb, ltb}
+use Rattle.ranks.specs.Prelude.{ℕ, suc, _-_, _<_, _≡_, Bool, true, _&&_, List, [], map, getD, eqb, leb, ltb}
 use Rattle.ranks.specs.Lists.{if_then_else_, _implies_, mapWithIndex, countTrue, every, findIndex, numbersFrom}
 use Rattle.ranks.specs.Position.{Position, noQueue, positionAt, inQueue, standsAt}
 use Rattle.ranks.specs.Table.{positionIn}

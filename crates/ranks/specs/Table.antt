@@ -18,11 +18,11 @@ records (suc k) n bytes = take n bytes ∷ records k n (drop n bytes)
 abbrev pub positionIn : ℕ → List ℕ → Position
 positionIn i bytes = record { queue = byte i bytes; rank = byte (i + 1) bytes }
 
--- ---- For the code
-
 -- the bytes with `new` written from place `i` on
 unfoldable pub spliced : List ℕ → ℕ → List ℕ → List ℕ
 spliced bytes i new = take i bytes ++ new ++ drop (i + length new) bytes
+
+-- ---- For the code
 
 -- the bytes with another position from `i` on
 abbrev pub putPosition : ℕ → Position → List ℕ → List ℕ

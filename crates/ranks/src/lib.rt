@@ -1,7 +1,7 @@
 // The rank steps, for messages and waiters alike: a table of count records of stride bytes, each with its queue at place and its rank after it.
 ghost use mathlib.Core.Path.{_≡_};
 ghost use mathlib.Core.Bool.{true};
-ghost use Prim.Native.Nat.{_+_, _*_, _<_};
+ghost use Prim.Native.Nat.{_+_, _<_};
 ghost use lib.ListN.{length};
 ghost use Rattle.ranks.specs.Lists.{mapWithIndex};
 ghost use Rattle.ranks.specs.Position.{inQueue, standsAt};
@@ -62,7 +62,7 @@ fn after(entering: bool, i: usize, slot: u8, rank: u8, j: usize, p: Position) ->
     after_take_out(i, slot, rank, j, p)
 }
 
-pub fn read_position(t: &[u8], at: usize) -> Position
+fn read_position(t: &[u8], at: usize) -> Position
     requires { ⌜ at + 1 < length (now t) ⌝ }
     ensures { λ p. ⌜ p ≡ positionIn at (now (t .entry)) ⌝ }
 {

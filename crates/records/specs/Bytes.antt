@@ -1,5 +1,5 @@
 -- Document 01, "Tables": the bytes of each record and of the tables. "Fixed-size records, no header, little-endian."
-use Rattle.ranks.specs.Prelude.{ℕ, _+_, _*_, Bool, _&&_, List, _∷_, _++_, map, flatten, length, eqb}
+use Rattle.ranks.specs.Prelude.{ℕ, _*_, Bool, _&&_, List, _∷_, _++_, map, flatten, length, eqb}
 use Rattle.ranks.specs.Table.{slice, byte, records, positionIn}
 use Rattle.bytes.specs.LittleEndian.{fromLittleEndian, toLittleEndian}
 use Rattle.records.specs.Layout.{capacity, slotCount, queueWidth, queuesSize, bufferCount, bufferWidth, bufferPosition, bufferLength, bufferData, poolSize, taskCount, taskWidth, taskPosition, taskLength, taskData, tasksSize}

@@ -1,5 +1,5 @@
 -- Changes to one record, and to a table.
-use Rattle.ranks.specs.Prelude.{ℕ, true, false, List, _++_, length, drop, replicate, eqb}
+use Rattle.ranks.specs.Prelude.{ℕ, List, _++_, length, drop, replicate, eqb}
 use Rattle.ranks.specs.Lists.{if_then_else_, mapWithIndex}
 use Rattle.ranks.specs.Position.{Position, noQueue}
 use Rattle.ranks.specs.Steps.{insertInto, takeOutOf}

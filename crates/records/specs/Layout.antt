@@ -5,7 +5,7 @@ use Rattle.ranks.specs.Prelude.{ℕ, _+_, _*_, _/_, _%_}
 abbrev pub capacity : ℕ
 capacity = 120
 
--- "0 owner queue (slot+1, 0 free); 1 rank; 2 length; 3-7 zero; 8-127 data"
+-- The place of a field in its record. "0 owner queue (slot+1, 0 free); 1 rank; 2 length; 3-7 zero; 8-127 data"
 abbrev pub bufferPosition : ℕ
 bufferPosition = 0
 

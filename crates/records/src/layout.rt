@@ -33,7 +33,7 @@ pub const TASKS_PER_SHARE: usize = 8;
 // A slot with this generation is spent.
 pub const LAST_GENERATION: u16 = 65535;
 
-// Where a field stands in its record: the position (queue, then rank), a message's length, its bytes.
+// The place of a field in its record: of the position (queue, then rank), of a message's length, of its bytes.
 pub const BUFFER_POSITION: usize = 0;
 
 pub const BUFFER_LENGTH: usize = 2;

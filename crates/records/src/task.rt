@@ -10,6 +10,7 @@ ghost use Rattle.records.specs.Changes.{changeAt, withMessage};
 ghost use Rattle.records.specs.TaskHeads.{headOf, withHead, readyHead, messageHead, waitingHead, tickedHead};
 use crate::layout::TASK_DATA;
 use crate::layout::TASK_LENGTH;
+use crate::layout::TASK_POSITION;
 use crate::layout::TASK_WIDTH;
 use crate::status::SUCCESSFUL;
 use crate::status::WAITING;
@@ -93,8 +94,8 @@ fn decode_head(r: &[u8]) -> TaskHead
 {
     TaskHead {
         state: r[0],
-        queue: r[1],
-        rank: r[2],
+        queue: r[TASK_POSITION],
+        rank: r[TASK_POSITION + 1],
         priority: r[3],
         status: r[4],
         messageLength: r[TASK_LENGTH],

@@ -1,5 +1,5 @@
 -- Document 01, "Status numbers": answers, and refusals in their order.
-use Rattle.ranks.specs.Prelude.{ℕ, Bool, true, false, List, [], _∷_}
+use Rattle.ranks.specs.Prelude.{ℕ, Bool, List, [], _∷_}
 use Rattle.ranks.specs.Lists.{if_then_else_}
 use Rattle.records.specs.Status.{SUCCESSFUL}
 

@@ -1,5 +1,5 @@
 -- What the directives ask of the tables, and how a task leaves a queue.
-use Rattle.ranks.specs.Prelude.{ℕ, _-_, Bool, true, false, _||_, not, List, [], _∷_, eqb, ltb}
+use Rattle.ranks.specs.Prelude.{ℕ, _-_, Bool, _||_, not, List, [], _∷_, eqb, ltb}
 use Rattle.ranks.specs.Lists.{if_then_else_, mapWithIndex, allTrue}
 use Rattle.ranks.specs.Position.{inQueue}
 use Rattle.ranks.specs.Steps.{recordAt}

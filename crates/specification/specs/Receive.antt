@@ -1,5 +1,5 @@
 -- Document 01: "Receive (option 0 wait, 1 no wait; ticks)".
-use Rattle.ranks.specs.Prelude.{ℕ, suc, _-_, true, false, _&&_, not, List, [], _∷_, eqb, leb, ltb}
+use Rattle.ranks.specs.Prelude.{ℕ, suc, _-_, _&&_, not, List, [], _∷_, eqb, leb, ltb}
 use Rattle.ranks.specs.Lists.{if_then_else_, mapWithIndex, minimum}
 use Rattle.ranks.specs.Position.{positionAt, inQueue}
 use Rattle.records.specs.Layout.{bufferCount}

@@ -1,5 +1,5 @@
 -- Document 01, "Sound tables", rule by rule. "Tables are sound exactly if all of this holds."
-use Rattle.ranks.specs.Prelude.{ℕ, pred, Bool, true, false, _&&_, _||_, List, [], _∷_, eqb, leb, ltb, drop}
+use Rattle.ranks.specs.Prelude.{ℕ, pred, Bool, _&&_, _||_, List, [], _∷_, eqb, leb, ltb, drop}
 use Rattle.ranks.specs.Lists.{if_then_else_, _implies_, mapWithIndex, allTrue, every, sumOf, allZero, numbersFrom}
 use Rattle.ranks.specs.Position.{Position, inQueue}
 use Rattle.ranks.specs.Steps.{ranked}

@@ -1,6 +1,6 @@
 -- What send and urgent share. Document 01: "2, 3 (size 0 or above max), then the waiter at rank 0 if any [...]. Else 5 if full, 13, else the
 -- lowest free buffer of the owner's share".
-use Rattle.ranks.specs.Prelude.{ℕ, suc, Bool, true, false, _&&_, not, List, [], _∷_, length, eqb, leb}
+use Rattle.ranks.specs.Prelude.{ℕ, suc, Bool, _&&_, not, List, [], _∷_, length, eqb, leb}
 use Rattle.ranks.specs.Lists.{if_then_else_, mapWithIndex, findIndex, mask}
 use Rattle.ranks.specs.Position.{positionAt}
 use Rattle.records.specs.Split.{shareOfSlot, shareOfBuffer}

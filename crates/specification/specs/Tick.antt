@@ -1,5 +1,5 @@
 -- Document 01: "Tick".
-use Rattle.ranks.specs.Prelude.{ℕ, _-_, Bool, true, false, _&&_, List, [], _∷_, eqb, leb}
+use Rattle.ranks.specs.Prelude.{ℕ, _-_, Bool, _&&_, List, [], _∷_, eqb, leb}
 use Rattle.ranks.specs.Lists.{if_then_else_, mapWithIndex, countTrue, mask, numbersFrom}
 use Rattle.records.specs.Layout.{taskCount}
 use Rattle.records.specs.Records.{Task, State, waitingState, taskAt}

@@ -39,7 +39,6 @@ use Rattle.specification.specs.Receive
 use Rattle.specification.specs.GetNumberPending
 use Rattle.specification.specs.Flush
 use Rattle.specification.specs.Tick
-use Rattle.theorems.proofs.CountChange
 
 -- ---- Generations never fall
 

@@ -19,7 +19,6 @@ use Rattle.theorems.proofs.SoundCreate.{create-sound, delete-sound}
 use Rattle.theorems.proofs.SoundSubmit.{usable-live, slot-below, submitted, submit-sound}
 use Rattle.theorems.proofs.SoundTick.{tick-sound}
 use Rattle.theorems.proofs.SoundWait.{usable-may, receive-sound}
-use Rattle.specification.specs.Broadcast
 use Rattle.specification.specs.GetNumberPending
 use Rattle.specification.specs.Ident
 

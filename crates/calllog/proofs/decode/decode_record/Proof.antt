@@ -22,7 +22,7 @@ returns-2 : tie.Need-returns-2
 returns-2 c =
     let r = c .before .before .before .before .before .before .args .r .now in
     let t = c .before .before .keeps-row .result in
-    c .call-of .ensures
+    c .call-in .ensures
     ∙ sym
     (record-kept r (c .before .before .before .before .before .before .pre) t (c .before .before .before .wide .result) (c .before .before .before .wide .ensures .0) (c .before .before .keeps-row .ensures)
     ∙ ap (λ (b : Bool). if b then callIn r else Malformed) (not-false t (c .before .if1 .left)))

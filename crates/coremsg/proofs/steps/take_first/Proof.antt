@@ -21,7 +21,7 @@ returns c =
     let t = tables (a .queues .now) (a .pool .now) (a .tasks .now) in
     let here = sym (buffer-at t (a .b) (s .pre .1 .0 .bufferBelow)) in (
       copied .copy-message .ensures .0 ∙ ap (λ (m : Buffer). m .messageLength) here,
-      state-is _ _ _ (received (decode t) (a .caller) (a .slot) (a .b) .after) (c .before .before .one-less-message .ensures) (removed .remove-message .ensures)
+      state-is _ _ _ (received (decode t) (a .caller) (a .slot) (a .b) .after) (c .before .before .one-less-message .ensures) (removed .take-out-message .ensures)
           (copied .copy-message .ensures .1 ∙ ap (λ (m : Buffer). mapWithIndex (atIndex (a .caller) (withMessage (messageIn m))) (decodeTasks (a .tasks .now))) here),
     )
 

@@ -45,15 +45,15 @@ returns-3 c = c .before .before .before .before .before .before .delete .ensures
 
 returns-4 : tie.Need-returns-4
 unfolding directiveOf
-returns-4 c = c .before .before .before .before .before .before .send .ensures ∙ simp (c .before .before .before .before .before .before .before .message-of .ensures, at-directive4 (c .before .before .before .before .before) .directive4 .given .1)
+returns-4 c = c .before .before .before .before .before .before .send .ensures ∙ simp (c .before .before .before .before .before .before .before .front-of .ensures, at-directive4 (c .before .before .before .before .before) .directive4 .given .1)
 
 returns-5 : tie.Need-returns-5
 unfolding directiveOf
-returns-5 c = c .before .before .before .before .before .before .urgent .ensures ∙ simp (c .before .before .before .before .before .before .before .message-of2 .ensures, at-directive5 (c .before .before .before .before .before) .directive5 .given .1)
+returns-5 c = c .before .before .before .before .before .before .urgent .ensures ∙ simp (c .before .before .before .before .before .before .before .front-of2 .ensures, at-directive5 (c .before .before .before .before .before) .directive5 .given .1)
 
 returns-6 : tie.Need-returns-6
 unfolding directiveOf
-returns-6 c = c .before .before .before .before .broadcast .ensures ∙ simp (c .before .before .before .before .before .message-of3 .ensures, at-directive6 (c .before .before .before) .directive6 .given .1)
+returns-6 c = c .before .before .before .before .broadcast .ensures ∙ simp (c .before .before .before .before .before .front-of3 .ensures, at-directive6 (c .before .before .before) .directive6 .given .1)
 
 returns-7 : tie.Need-returns-7
 unfolding directiveOf

@@ -5,7 +5,7 @@ use Rattle.records.specs.Layout.{slotOf}
 use Rattle.records.specs.Bytes.{Tables, tables}
 use Rattle.records.proofs.Statuses.{tells}
 use Rattle.manager.proofs.Outcomes.{call-facts, as-encoded}
-use Rattle.manager.proofs.OnQueue.{refused-operation, queue-facts, task-place, message-place, message-short, message-fits}
+use Rattle.manager.proofs.OnQueue.{refused-operation, queue-facts, queue-and-task, queue-and-buffer, message-short, message-fits}
 use Rattle.manager.proofs.Receives.{Found, found-by, receive-tests, received-done, waiting-done}
 use borrow.Author.Needs.{needs}
 use Rattle.manager.proofs.msgqreceive.receive.Statement.{statement}
@@ -53,7 +53,7 @@ take-first-requires : tie.Need-take-first-requires
 take-first-requires c κs =
     let known = call-facts (begun (at-first-message (c .before .before .before .before)) .pre) in
     let there = c .before .before .before .if1 .taken in
-    (task-place known _ (omega arith) _ (known .callerBelow), (message-place known _ (omega arith) _ there, message-fits known _ there))
+    (queue-and-task known _ (omega arith) _ (known .callerBelow), (queue-and-buffer known _ (omega arith) _ there, message-fits known _ there))
 
 cast-t26 : tie.Need-cast-t26
 cast-t26 c =
@@ -76,7 +76,7 @@ wait-in-requires c κs =
     let s = begun (at-first-message (c .before .before .before)) in
     let known = call-facts (s .pre) in
     let queue = queue-facts known (slotOf (s .args .id)) (omega arith) in
-    (task-place known _ (omega arith) _ (known .callerBelow), (queue .waiterRoom, queue .fewWaiters))
+    (queue-and-task known _ (omega arith) _ (known .callerBelow), (queue .waiterRoom, queue .fewWaiters))
 
 returns-3 : tie.Need-returns-3
 returns-3 c =

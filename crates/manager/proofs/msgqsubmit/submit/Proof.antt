@@ -8,7 +8,7 @@ use Rattle.records.specs.Bytes.{Tables, tables}
 use Rattle.records.proofs.Tabled.{slot-share-below}
 use Rattle.records.proofs.Statuses.{tells}
 use Rattle.manager.proofs.Outcomes.{call-facts, as-encoded}
-use Rattle.manager.proofs.OnQueue.{refused-operation, queue-facts, task-place, message-place}
+use Rattle.manager.proofs.OnQueue.{refused-operation, queue-facts, queue-and-task, queue-and-buffer}
 use Rattle.manager.proofs.Submits.{Found, found-by, Submittable, submittable, submit-tests, delivered-done, enqueued-done}
 use borrow.Author.Needs.{needs}
 use Rattle.manager.proofs.msgqsubmit.submit.Statement.{statement}
@@ -70,7 +70,7 @@ hand-over-requires : tie.Need-hand-over-requires
 hand-over-requires c κs =
     let tests = c .before .before .before in
     let known = call-facts (begun (at-buffer tests) .pre) in
-    (task-place known _ (omega arith) _ (c .before .before .if1 .taken), may tests .fits)
+    (queue-and-task known _ (omega arith) _ (c .before .before .if1 .taken), may tests .fits)
 
 returns-2 : tie.Need-returns-2
 returns-2 c =
@@ -88,7 +88,7 @@ put-into-requires c κs =
     let s = begun (at-buffer tests) in
     let known = call-facts (s .pre) in
     let queue = queue-facts known (slotOf (s .args .id)) (omega arith) in
-    (message-place known _ (omega arith) _ (may tests .hasBuffer (c .before .before .before .if1 .left)), (may tests .fits, (queue .messageRoom, queue .fewMessages)))
+    (queue-and-buffer known _ (omega arith) _ (may tests .hasBuffer (c .before .before .before .if1 .left)), (may tests .fits, (queue .messageRoom, queue .fewMessages)))
 
 returns-3 : tie.Need-returns-3
 returns-3 c =

@@ -20,4 +20,5 @@ decode-head-spec =
     (search needs)
     (search needs)
     (search needs)
+    (search needs)
     returns)

@@ -2,17 +2,17 @@
 use borrow.Author.Tests.{ltb-true}
 use mir.Facts.{toZ-ofZ, fits-natAbs, sfits-toZ, fits-ofZ}
 use mir.Syntax.{w64}
-use mir.Val.{toZ, ofZ, Fits}
+use mir.Val.{toZ, ofZ}
 use native.Mathlib.Nat.{lt-of-le-of-lt}
 use native.Mathlib.Omega.{arith}
-use Prim.Native.Nat.{ℕ, zero, suc, _+_, _-_, _≤_, _<_}
+use Prim.Native.Nat.{ℕ, zero, suc, _+_, _-_, _≤_}
 use mathlib.Core.Bool.{true, false}
 use mathlib.Core.Path.{_≡_, refl, sym, ap, subst, _∙_}
 use lib.Dec.{T}
 use lib.IntN.{ℤ, pos, negsuc, natAbs}
 use lib.Signed.{ltZ, nonNeg}
 use Rattle.libc.specs.Io.{Moved}
-use Rattle.streams.specs.declared.reading.Read.the-variants.{More, Ended, Failed}
+use Rattle.streams.specs.declared.reading.Read.the-variants.{More, Failed}
 use Rattle.streams.specs.Filling.{afterRead}
 use Rattle.streams.proofs.reading.after_read.Statement.{statement}
 use Rattle.streams.proofs.reading.after_read.Tie as tie

@@ -7,7 +7,6 @@ use mathlib.Core.List.{List}
 use lib.ListN.{length}
 use Rattle.streams.specs.declared.reading.Filled.{Filled}
 use Rattle.streams.specs.declared.reading.Read.{Read}
-use Rattle.streams.specs.declared.reading.Read.the-variants.{More}
 use Rattle.streams.specs.Filling.{ReadMore, Fills, full, ended, failed, more}
 use Rattle.streams.proofs.Added.{room-left}
 use Rattle.streams.proofs.reading.fill.Statement.{statement}

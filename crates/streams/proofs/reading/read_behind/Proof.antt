@@ -5,8 +5,7 @@ use mir.Facts.{toZ-ofZ}
 use mir.Syntax.{w64}
 use native.Mathlib.Omega.{arith}
 use Prim.Native.Nat.{ℕ, _-_}
-use mathlib.Core.Path.{_≡_, subst, sym}
-use lib.IntN.{ℤ}
+use mathlib.Core.Path.{subst, sym}
 use lib.ListN.{length, drop, length-drop}
 use lib.Seq.{length-take-le}
 use Rattle.libc.specs.Io.{Moved}

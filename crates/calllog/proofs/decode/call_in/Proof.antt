@@ -1,4 +1,4 @@
--- `calllog::decode::call_of` meets its contract. Assumes nothing.
+-- `calllog::decode::call_in` meets its contract. Assumes nothing.
 use Prim.Native.Nat.{ℕ}
 use mathlib.Core.Path.{_≡_, sym}
 use mathlib.Core.List.{List}
@@ -6,8 +6,8 @@ use borrow.Author.Needs.{needs}
 use Rattle.ranks.specs.Table.{byte}
 use Rattle.calllog.specs.CallLog.{callWith, callIn}
 use Rattle.calllog.proofs.Laws.{call-at, call-other}
-use Rattle.calllog.proofs.decode.call_of.Statement.{statement}
-use Rattle.calllog.proofs.decode.call_of.Tie as tie
+use Rattle.calllog.proofs.decode.call_in.Statement.{statement}
+use Rattle.calllog.proofs.decode.call_in.Tie as tie
 
 abbrev entry : tie.After-read-u32 → tie.Start
 entry i = i .before .before .before .before .before .before
@@ -69,8 +69,8 @@ returns-10 c = read (c .before) 10 (c .match .keys10)
 returns-11 : tie.Need-returns-11
 returns-11 c = sym (call-other (given (c .before)) (c .match .rest))
 
-pub call-of-spec : {M : Type 1} → statement M
-call-of-spec =
+pub call-in-spec : {M : Type 1} → statement M
+call-in-spec =
     tie.close
     (tie.spec
     (search needs)

@@ -1,11 +1,11 @@
--- `coremsg::steps::remove_message` meets its contract. Assumes nothing.
+-- `coremsg::steps::take_out_message` meets its contract. Assumes nothing.
 use mathlib.Core.Path.{refl}
 use Rattle.ranks.specs.Steps.{takenOut}
 use Rattle.records.specs.Records.{freeBuffer}
 use Rattle.coremsg.proofs.Changed.{buffer-stepped}
 use borrow.Author.Needs.{needs}
-use Rattle.coremsg.proofs.steps.remove_message.Statement.{statement}
-use Rattle.coremsg.proofs.steps.remove_message.Tie as tie
+use Rattle.coremsg.proofs.steps.take_out_message.Statement.{statement}
+use Rattle.coremsg.proofs.steps.take_out_message.Tie as tie
 
 returns : tie.Need-returns
 returns c =
@@ -14,6 +14,6 @@ returns c =
     let a = s .args in
     buffer-stepped (takenOut (a .b) (a .slot) 0) (a .b) (λ _. freeBuffer) (λ p m. refl) (a .pool .now) _ _ (s .pre .1 .1) (out .take-out .ensures) (c .before .before .clear-buffer .ensures)
 
-pub remove-message-spec : {M : Type 1} → statement M
-remove-message-spec =
+pub take-out-message-spec : {M : Type 1} → statement M
+take-out-message-spec =
     tie.close (tie.spec (search needs) (search needs) (search needs) (search needs) returns)

@@ -23,7 +23,7 @@
  *
  * A buffer is lent as a pointer and its length in bytes. The library cannot test the following, so the host sees to it:
  *
- *   - No pointer is NULL, even where the length is 0, and all the bytes lent are there.
+ *   - No pointer is NULL, even where the length is 0 as for a message of no bytes, and all the bytes lent are there.
  *   - The buffers of a call do not overlap. What is lent as const is not written.
  *   - Nobody else reads or writes them during the call: one call at a time over the same tables.
  *   - Between calls the host reads the tables as it likes and writes nothing there. No task can reach them.
@@ -66,7 +66,7 @@
  * record of task t, which starts at byte 136 * t of the tasks, the host then finds:
  *
  *   4      how the receive ended: SUCCESSFUL with a message, TIMEOUT or OBJECT_WAS_DELETED without
- *   5      length of the message; 0 without one
+ *   5      length of the message, 0 for one of no bytes; 0 without one. Byte 4 tells which.
  *   16..   the message. The bytes behind its length are left over from earlier ones.
  */
 #ifndef MESSAGE_MANAGER_H
@@ -189,11 +189,11 @@ uint32_t message_queue_delete(
 /*
  * Sends a message. The first task that waits in the queue gets it at once; where none waits, it is queued at the rear.
  *
- *   message, message_size  the bytes: 1 to the queue's max_size. They are copied.
+ *   message, message_size  the bytes: 0 to the queue's max_size. They are copied. A message of no bytes is one too.
  *
  * Value: 0. Wakes the task that got the message, with SUCCESSFUL. Status: first the common tests, then
  *   INVALID_ID    id not usable
- *   INVALID_SIZE  message_size 0 or above max_size
+ *   INVALID_SIZE  message_size above max_size
  *   TOO_MANY      nobody waits and the queue is full
  *   NO_BUFFER     nobody waits and the queue's share has no free buffer
  *   SUCCESSFUL
@@ -215,11 +215,11 @@ uint32_t message_queue_urgent(
 /*
  * Sends a message to every task that waits in the queue. Nothing is queued: where none waits, nothing happens.
  *
- *   message, message_size  the bytes: 1 to the queue's max_size. They are copied.
+ *   message, message_size  the bytes: 0 to the queue's max_size. They are copied. A message of no bytes is one too.
  *
  * Value: how many tasks got it. Wakes them all, with SUCCESSFUL. Status: first the common tests, then
  *   INVALID_ID    id not usable
- *   INVALID_SIZE  message_size 0 or above max_size
+ *   INVALID_SIZE  message_size above max_size
  *   SUCCESSFUL
  */
 uint32_t message_queue_broadcast(
@@ -235,7 +235,8 @@ uint32_t message_queue_broadcast(
  *   option  MESSAGE_QUEUE_WAIT or MESSAGE_QUEUE_NO_WAIT
  *   ticks   how many ticks to wait, 0 for ever; not looked at with MESSAGE_QUEUE_NO_WAIT
  *
- * Value: the length of the message received; 0 with WAITING. Wakes nobody. Status: first the common tests, then
+ * Value: the length of the message received, 0 for one of no bytes; 0 with WAITING. Wakes nobody. Status: first the
+ * common tests, then
  *   INVALID_ID      id not usable
  *   INVALID_OPTION  option above 1
  *   SUCCESSFUL      the message is in the caller's record

@@ -45,11 +45,12 @@ static void show_call(const char *format, ...)
     printf("%*s", 52 - width, "");
 }
 
-/* How the last receive of a task ended, with the message that it got. */
+/* How the last receive of a task ended, with the message that it got, which may have no bytes. */
 static void show_received(uint32_t task)
 {
-    printf("    task %u goes on: %s", task, status_name(message_manager_task_status(tables.tasks, task)));
-    if (message_manager_task_length(tables.tasks, task) > 0)
+    const uint32_t status = message_manager_task_status(tables.tasks, task);
+    printf("    task %u goes on: %s", task, status_name(status));
+    if (status == MESSAGE_QUEUE_SUCCESSFUL)
         printf(", \"%.*s\"", (int)message_manager_task_length(tables.tasks, task),
                (const char *)message_manager_task_message(tables.tasks, task));
     printf("\n");
@@ -197,6 +198,11 @@ int main(void)
 
     receive(host, levels, MESSAGE_QUEUE_WAIT, 0);
     send(guest, levels, "level 41");
+
+    /* a heartbeat: a message of no bytes */
+    send(guest, levels, "");
+    get_number_pending(host, levels);
+    receive(host, levels, MESSAGE_QUEUE_NO_WAIT, 0);
 
     receive(host, levels, MESSAGE_QUEUE_WAIT, 0);
     receive(other, levels, MESSAGE_QUEUE_WAIT, 5);

@@ -241,12 +241,12 @@ impl Host {
 
     // ---- In words
 
-    /// How the last receive of a task ended, with the message that it got.
+    /// How the last receive of a task ended, with the message that it got, which may have no bytes.
     fn show_received(&self, task: u32) {
         let record = &self.tasks[TASK_RECORD_SIZE * task as usize..][..TASK_RECORD_SIZE];
-        let message = &record[16..][..usize::from(record[5])];
-        print!("    task {task} goes on: {}", status_name(record[4].into()));
-        if !message.is_empty() {
+        let (status, message) = (u32::from(record[4]), &record[16..][..usize::from(record[5])]);
+        print!("    task {task} goes on: {}", status_name(status));
+        if status == SUCCESSFUL {
             print!(", \"{}\"", String::from_utf8_lossy(message));
         }
         println!();
@@ -354,6 +354,11 @@ fn main() {
 
     host.receive(task, levels, WAIT, 0);
     host.send(guest, levels, "level 41");
+
+    // a heartbeat: a message of no bytes
+    host.send(guest, levels, "");
+    host.get_number_pending(task, levels);
+    host.receive(task, levels, NO_WAIT, 0);
 
     host.receive(task, levels, WAIT, 0);
     host.receive(other, levels, WAIT, 5);

@@ -1,22 +1,23 @@
 //! Times the static library and an outside program in turn, on the same logs. tools/bench builds it and runs it.
 //!
-//! usage: bench COUNT ROUNDS MODES SEEDS, as 20000 15 long,mixed,wide 1,2,3
+//! usage: bench LEVEL COUNT ROUNDS MODES SEEDS, as 1 20000 15 long,mixed,wide 1,2,3
 //!
-//! What is timed is a whole log, from fresh tables, in four ways:
+//! The outside program follows document 01 with the requests [1] to [LEVEL] of document 02. What is timed is a whole
+//! log, from fresh tables, in four ways:
 //!
 //!   ours, search at each call     message_manager_call for each record
 //!   ours, checked once            message_manager_replay
-//!   outside, search at each call  replay_on with Check::Fast
-//!   outside, checked once         replay_on with Check::Off
+//!   outside, search at each call  replay_on_at with Check::Fast
+//!   outside, checked once         replay_on_at with Check::Off
 //!
 //! Ours goes through the C interface, for each record or for each log, and its run checked once does search the tables
 //! before the first record; the outside program's never does. The outside program allocates its answers, once for a
 //! log; ours writes them into a buffer that is there. Else both do the same: they decode each record, test the lengths
 //! of the tables at each call and write every answer record.
 
-use outside::gen::{generate, Mode};
-use outside::log::{decode, replay_on, Item, ANSWER_SIZE, RECORD_SIZE};
-use outside::{Check, Image};
+use outside::gen::{generate_at, Mode};
+use outside::log::{decode_at, replay_on_at, Item, ANSWER_SIZE, RECORD_SIZE};
+use outside::{Check, Image, Rules};
 use std::hint::black_box;
 use std::time::Instant;
 
@@ -34,16 +35,16 @@ extern "C" {
 // ---- Four ways to replay a log
 
 /// From tables to the tables after the log; the answers hold 16 bytes for each record.
-type Replay = fn(tables: &mut Image, log: &[u8], answers: &mut Vec<u8>);
+type Replay = fn(rules: Rules, tables: &mut Image, log: &[u8], answers: &mut Vec<u8>);
 
 const WAYS: [(&str, Replay); 4] = [
     ("ours, search at each call", our_calls),
-    ("outside, search at each call", |tables, log, answers| *answers = replay_on(Check::Fast, tables, log)),
+    ("outside, search at each call", |rules, tables, log, answers| *answers = replay_on_at(rules, Check::Fast, tables, log).0),
     ("ours, checked once", our_replay),
-    ("outside, checked once", |tables, log, answers| *answers = replay_on(Check::Off, tables, log)),
+    ("outside, checked once", |rules, tables, log, answers| *answers = replay_on_at(rules, Check::Off, tables, log).0),
 ];
 
-fn our_calls(tables: &mut Image, log: &[u8], answers: &mut Vec<u8>) {
+fn our_calls(_rules: Rules, tables: &mut Image, log: &[u8], answers: &mut Vec<u8>) {
     let Image { queues, pool, tasks } = tables;
     for (record, answer) in log.chunks(RECORD_SIZE).zip(answers.chunks_mut(ANSWER_SIZE)) {
         unsafe {
@@ -55,7 +56,7 @@ fn our_calls(tables: &mut Image, log: &[u8], answers: &mut Vec<u8>) {
     }
 }
 
-fn our_replay(tables: &mut Image, log: &[u8], answers: &mut Vec<u8>) {
+fn our_replay(_rules: Rules, tables: &mut Image, log: &[u8], answers: &mut Vec<u8>) {
     let Image { queues, pool, tasks } = tables;
     unsafe {
         message_manager_replay(
@@ -68,28 +69,29 @@ fn our_replay(tables: &mut Image, log: &[u8], answers: &mut Vec<u8>) {
 // ---- The logs of a mode
 
 struct Logs {
+    rules: Rules,
     logs: Vec<Vec<u8>>,
     records: usize,
     calls: usize,
 }
 
 impl Logs {
-    fn new(mode: &str, seeds: &[u64], count: usize) -> Logs {
+    fn new(rules: Rules, mode: &str, seeds: &[u64], count: usize) -> Logs {
         let known = Mode::from_name(mode).unwrap_or_else(|| fail(&format!("no mode {mode}")));
-        let logs: Vec<Vec<u8>> = seeds.iter().map(|seed| generate(*seed, count, known)).collect();
+        let logs: Vec<Vec<u8>> = seeds.iter().map(|seed| generate_at(rules, *seed, count, known)).collect();
         let records = || logs.iter().flat_map(|log| log.chunks(RECORD_SIZE));
-        let calls = records().filter(|record| matches!(decode(record), Item::Call { .. })).count();
-        Logs { records: records().count(), calls, logs }
+        let calls = records().filter(|record| matches!(decode_at(rules, record), Item::Call { .. })).count();
+        Logs { rules, records: records().count(), calls, logs }
     }
 
     /// All four ways give the answers and the tables of the outside program's reference.
     fn check(&self, mode: &str) {
         for (log, number) in self.logs.iter().zip(1..) {
-            let mut tables = Image::fresh();
-            let wanted = replay_on(Check::Clear, &mut tables, log);
+            let mut tables = Image::fresh_at(self.rules);
+            let (wanted, _) = replay_on_at(self.rules, Check::Clear, &mut tables, log);
             for (way, replay) in WAYS {
-                let (mut after, mut answers) = (Image::fresh(), vec![0; wanted.len()]);
-                replay(&mut after, log, &mut answers);
+                let (mut after, mut answers) = (Image::fresh_at(self.rules), vec![0; wanted.len()]);
+                replay(self.rules, &mut after, log, &mut answers);
                 if answers != wanted || after != tables {
                     fail(&format!("{mode}, log {number}: {way}: answers or tables differ from the reference"));
                 }
@@ -102,9 +104,9 @@ impl Logs {
         let mut spent = 0;
         for log in &self.logs {
             answers.resize(log.len().div_ceil(RECORD_SIZE) * ANSWER_SIZE, 0);
-            let mut tables = black_box(Image::fresh());
+            let mut tables = black_box(Image::fresh_at(self.rules));
             let start = Instant::now();
-            replay(&mut tables, black_box(log), answers);
+            replay(self.rules, &mut tables, black_box(log), answers);
             black_box((&tables, &answers));
             spent += start.elapsed().as_nanos();
         }
@@ -151,12 +153,13 @@ fn numbers(text: &str) -> Vec<u64> {
 
 fn main() {
     let words: Vec<String> = std::env::args().skip(1).collect();
-    let [count, rounds, modes, seeds] = &words[..] else { fail("usage: bench COUNT ROUNDS MODES SEEDS") };
+    let [level, count, rounds, modes, seeds] = &words[..] else { fail("usage: bench LEVEL COUNT ROUNDS MODES SEEDS") };
+    let rules = Rules::level(numbers(level)[0] as u8);
     let (count, rounds, seeds) = (numbers(count)[0] as usize, numbers(rounds)[0].max(1) as usize, numbers(seeds));
     println!("ns per call record; {} logs of {count} records for each mode, {rounds} rounds\n", seeds.len());
     print_heading();
     for mode in modes.split(',') {
-        let logs = Logs::new(mode, &seeds, count);
+        let logs = Logs::new(rules, mode, &seeds, count);
         logs.check(mode);
         let times = logs.times(rounds);
         let well_formed = 100.0 * logs.calls as f64 / logs.records as f64;

@@ -1,7 +1,7 @@
 """The cases of crates/replay_cases/data, by name: R, Q, M, T and X, and images that keep or break each rule of "Sound tables".
 
-A case is an image of the tables to start from, calls each with the answer that document 01 gives it, and bytes expected in the tables
-afterwards. `tools/stored_logs` holds the outside program to them and stores its answers and tables.
+A case is an image of the tables to start from, calls each with the answer that documents 01 and 02 give it, and bytes expected in the
+tables afterwards. `tools/stored_logs` holds the outside program to them and stores its answers and tables.
 """
 from collections import namedtuple
 
@@ -75,7 +75,7 @@ def tick():
     return record(TICK)
 
 
-A, B, C, D, AB = b"A", b"B", b"C", b"D", b"AB"
+A, B, C, D, AB, EMPTY = b"A", b"B", b"C", b"D", b"AB", b""
 
 
 # ---- Answers
@@ -209,14 +209,14 @@ def refusal_cases():
          (pending(0, 16), value(1))],
         [],
     )
-    # R4 send and urgent: 11, 2, 3, 5. Broadcast: 11, 2, 3.
+    # R4 send and urgent: 11, 2, 3, 5. Broadcast: 11, 2, 3. A message of no bytes comes as far as the others.
     yield Case(
         "R4", FRESH,
         [(create(0, 1, 1, 0), value(16)), (send(0, 16, A), done), (send(32, 32, AB), refused(11)), (send(0, 32, AB), refused(2)),
-         (send(0, 16, AB), refused(3)), (send(0, 16, []), refused(3)), (send(0, 16, B), refused(5)), (urgent(32, 32, AB), refused(11)),
-         (urgent(0, 32, AB), refused(2)), (urgent(0, 16, AB), refused(3)), (urgent(0, 16, []), refused(3)), (urgent(0, 16, B), refused(5)),
-         (broadcast(32, 32, AB), refused(11)), (broadcast(0, 32, AB), refused(2)), (broadcast(0, 16, AB), refused(3)),
-         (broadcast(0, 16, []), refused(3)), (broadcast(0, 16, B), value(0)), (poll(1, 16), value(1))],
+         (send(0, 16, AB), refused(3)), (send(0, 16, EMPTY), refused(5)), (send(0, 16, B), refused(5)), (urgent(32, 32, AB), refused(11)),
+         (urgent(0, 32, AB), refused(2)), (urgent(0, 16, AB), refused(3)), (urgent(0, 16, EMPTY), refused(5)),
+         (urgent(0, 16, B), refused(5)), (broadcast(32, 32, AB), refused(11)), (broadcast(0, 32, AB), refused(2)),
+         (broadcast(0, 16, AB), refused(3)), (broadcast(0, 16, EMPTY), value(0)), (broadcast(0, 16, B), value(0)), (poll(1, 16), value(1))],
         [task(1, 16, A)],
     )
     # R5 receive: 11, 2, 15, 6; 15 with a message pending, which stays. Pending: 11, 2.
@@ -250,7 +250,7 @@ def refusal_cases():
     yield Case(
         "R8", FRESH,
         [(create(0, 2, 1, 0), value(16)), (wait(1, 16, 0), waits), (send(0, 16, AB), refused(3)), (urgent(0, 16, AB), refused(3)),
-         (broadcast(0, 16, AB), refused(3)), (send(0, 16, []), refused(3))],
+         (broadcast(0, 16, AB), refused(3))],
         [task(1, 0, [1, 1, 0, 2, 14, *zeros(131)]), queue(0, 6, [0, 1]), buffer(0, 0, zeros(128))],
     )
     # R9 a poll that gives 6 writes nothing: status 7 stays in the task.
@@ -407,6 +407,31 @@ def message_cases():
          (wait(1, 17, 0), waits), (flush(0, 17), value(0)), (poll(2, 16), value(1))],
         [task(1, 0, [1, 2, 0, 2, 14, 0]), task(2, 16, A)],
     )
+    # M9 messages of no bytes keep their place in the line, each in a buffer of its own; received, they leave all 120 bytes of the receive
+    # buffer, and their buffers are the lowest free ones.
+    yield Case(
+        "M9", FRESH,
+        [(create(0, 4, 120, 0), value(16)), (send(0, 16, numbers(1, 120)), done), (poll(1, 16), value(120)), (send(0, 16, EMPTY), done),
+         (send(0, 16, A), done), (urgent(0, 16, EMPTY), done), (send(0, 16, B), done), (send(0, 16, EMPTY), refused(5)),
+         (pending(0, 16), value(4)), (poll(1, 16), value(0)), (wait(1, 16, 5), value(0)), (pending(0, 16), value(2)),
+         (send(0, 16, EMPTY), done)],
+        [task(1, 0, [0, 0, 0, 2, *zeros(12), *numbers(1, 120)]), buffer(0, 0, [1, 2, *zeros(126)]), buffer(1, 0, [1, 0, 1, *zeros(5), *A]),
+         buffer(2, 0, zeros(128)), buffer(3, 0, [1, 1, 1, *zeros(5), *B]), queue(0, 6, [3, 0])],
+    )
+    # M10 messages of no bytes are counted and removed as others are: by flush, and by delete.
+    yield Case(
+        "M10", FRESH,
+        [(create(0, 2, 1, 0), value(16)), (create(0, 2, 1, 0), value(17)), (send(0, 16, EMPTY), done), (send(0, 17, EMPTY), done),
+         (send(0, 16, EMPTY), done), (flush(0, 16), value(2)), (pending(0, 17), value(1)), (delete(0, 17), done), (send(0, 16, EMPTY), done)],
+        [buffer(0, 0, [1, *zeros(127)]), buffer(1, 0, zeros(128)), buffer(2, 0, zeros(128)), queue(0, 6, [1, 0])],
+    )
+    # M11 a message of no bytes in an OPEN queue: a foreign task's goes to a foreign waiter, and then into a buffer of the owner's share.
+    yield Case(
+        "M11", FRESH,
+        [(create(8, 2, 8, 3), value(20)), (wait(31, 20, 7), waits), (urgent(0, 20, EMPTY), wakes(1 << 31)), (urgent(0, 20, EMPTY), done),
+         (pending(24, 20), value(1))],
+        [task(31, 0, [0, 0, 0, 32, *zeros(132)]), buffer(16, 0, [5, *zeros(127)]), buffer(0, 0, zeros(128)), queue(4, 6, [1, 0])],
+    )
 
 
 # ---- T: waiters and ticks
@@ -501,6 +526,12 @@ def image_cases():
         [task(1, 16, [21, 22]), task(7, 16, [1]), task(8, 4, [0, 1, *zeros(10), 255, *numbers(2, 119)]), buffer(1, 0, [1, 0, 10]),
          buffer(5, 0, zeros(128)), buffer(47, 0, zeros(128)), buffer(63, 0, zeros(128))],
     )
+    # X7 a message of no bytes in a buffer that is zero but for its owner byte; the receive buffer of task 8, of 120 bytes, stays whole.
+    yield Case(
+        "X7", written(BASE, buffer(47, 2, zeros(7))),
+        [(pending(8, 25), value(1)), (send(16, 25, EMPTY), refused(5)), (poll(8, 25), value(0)), (pending(8, 25), value(0))],
+        [task(8, 0, [0, 0, 0, 1, *zeros(12), *numbers(1, 120)]), buffer(47, 0, zeros(128))],
+    )
 
 
 # ---- Images that differ from BASE in a few bytes and keep every rule of "Sound tables", or break one (alone, where that can be: what
@@ -587,8 +618,19 @@ def buffer_rules():
     yield broken("buffer 3 of slot 16", buffer_3_of(16))
     yield broken("buffer 3 of slot 254", buffer_3_of(254))
     yield broken("buffer 3 of another share", buffer_3_of(8), queue(8, 6, [1]))
-    # "has length 1 to that queue's max size," Buffer 1 has length 10.
-    yield broken("length 0", buffer(0, 2, zeros(7)))
+    # Document 02, [1]: "a used buffer's length is 0 to the max size". Buffer 1 has length 10.
+    yield sound("length 0", buffer(0, 2, zeros(7)))
+    yield sound("length 0, only the owner not 0", buffer(47, 2, zeros(7)))
+    yield sound("length 0, three messages", buffer(0, 2, zeros(7)), buffer(1, 2, zeros(16)), buffer(5, 2, zeros(8)))
+    yield broken("length 0, a free slot", buffer(3, 0, [3]))
+    yield broken("length 0, slot 16", buffer(3, 0, [17]))
+    yield broken("length 0, another share", buffer(3, 0, [9]), queue(8, 6, [1]))
+    yield broken("length 0, not counted", buffer(3, 0, [1, 3]))
+    yield broken("length 0, two at rank 0", buffer(0, 1, zeros(8)))
+    for place in range(3, 8):
+        yield broken(f"length 0: byte {place}", buffer(0, 2, zeros(7)), buffer(0, place, [1]))
+    for place in 8, 9, 16, 126, 127:
+        yield broken(f"length 0: byte {place} after it", buffer(0, 2, zeros(7)), buffer(0, place, [1]))
     yield sound("length of max size", queue(0, 3, [10]))
     yield broken("length above max size", queue(0, 3, [9]))
     yield broken("length 121", buffer(63, 2, [121]))

@@ -67,9 +67,10 @@ limitAllowed n = within 1 largestLimit n
 abbrev pub maxSizeAllowed : ℕ → Bool
 maxSizeAllowed n = within 1 capacity n
 
--- "has length 1 to that queue's max size"; send, urgent and broadcast refuse "size 0 or above max"
+-- "has length 1 to that queue's max size"; send, urgent and broadcast refuse "size 0 or above max". Document 02 [1] overrules the 1 and the
+-- size 0: "Size 0 is now good for send, urgent and broadcast; a used buffer's length is 0 to the max size".
 unfoldable pub sizeAllowed : Queue → (size : ℕ) → Bool
-sizeAllowed q size = within 1 (q .maxSize) size
+sizeAllowed q size = leb size (q .maxSize)
 
 -- the queue holds as many messages as its limit says
 abbrev pub isFull : Queue → Bool

@@ -49,11 +49,11 @@ impl QueueRecord {
         self.attributes / 2 % 2 == 1
     }
 
-    // A message of the queue may have this size.
+    // A message of the queue may have this size. One of no bytes may be in any queue.
     pub fn size_allowed(self, size: usize) -> bool
         ensures { λ r. ⌜ r ≡ sizeAllowed self size ⌝ }
     {
-        is_within(1, self.maxSize as usize, size)
+        size <= self.maxSize as usize
     }
 
     pub fn is_full(self) -> bool

@@ -1,8 +1,8 @@
 // Runs stored call logs and stored cases on the code, and compares the answers and the tables with stored ones.
 //
 // Of each log there are three files in data/: NAME.log, NAME.answers and NAME.image, the 12,800 bytes of the tables after it. A log starts
-// from fresh tables. The logs mixed, wide, isolation and long are random; w1_to_w14 and malformed were written by hand: the cases of
-// document 01, and each kind of malformed record. short_1, short_16 and short_135 end in a part of as many bytes.
+// from fresh tables. The logs mixed, wide, isolation and long are random; paper_cases and malformed were written by hand: W1 to W15 of
+// documents 01 and 02, and each kind of malformed record. short_1, short_16 and short_135 end in a part of as many bytes.
 //
 // A file NAME.cases has an image, 12,800 bytes, and then for each case
 //     its name, 32 bytes, spaces after it;
@@ -11,11 +11,11 @@
 //     the log: call records, all whole;
 //     the answer records;
 //     the changes after: the bytes in which the tables after the log differ from those that it started from.
-// A change is a place in the image, two bytes, lowest first, and the byte that stands there. R, Q, M, T and X are cases on what document 01
-// says of each directive; sound_tables has a tick on images that keep or break each rule of its "Sound tables".
+// A change is a place in the image, two bytes, lowest first, and the byte that stands there. R, Q, M, T and X are cases on what documents 01
+// and 02 say of each directive; sound_tables has a tick on images that keep or break each rule of "Sound tables".
 //
-// The answers and tables come from an independent program, written from document 01 and sharing nothing with this code; the answers of
-// worked_example are the 16 bytes that document 01 prints.
+// The answers and tables come from an independent program, written from documents 01 and 02 and sharing nothing with this code; the answers
+// of worked_example are the 16 bytes that document 01 prints.
 mod case; // case.rt: a case, run on the code
 mod image; // image.rt: where each table stands in an image
 
@@ -443,10 +443,10 @@ fn compare_written_logs(t: Totals) -> Totals {
     );
     let t = compare_log(
         t,
-        b"w1_to_w14",
-        b"w1_to_w14.log",
-        b"w1_to_w14.answers",
-        b"w1_to_w14.image",
+        b"paper_cases",
+        b"paper_cases.log",
+        b"paper_cases.answers",
+        b"paper_cases.image",
     );
     compare_log(
         t,

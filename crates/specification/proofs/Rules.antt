@@ -29,7 +29,7 @@ in-bounds a b n h k = and (le-leb _ _ h) (le-leb _ _ k)
 
 pub size-at-most : (q : Queue) (n : ℕ) → sizeAllowed q n ≡ true → n ≤ q .maxSize
 unfolding sizeAllowed
-size-at-most q n e = bounds _ _ _ e .1
+size-at-most q n e = leb-true _ _ e
 
 pub size-same : (q q′ : Queue) (n : ℕ) → q′ .maxSize ≡ q .maxSize → sizeAllowed q n ≡ true → sizeAllowed q′ n ≡ true
 unfolding sizeAllowed

@@ -1,5 +1,6 @@
--- Document 01, "Cases on each side": W1 to W14 and the errors that it names, as one list. A case is a run from fresh tables: each call with
--- the answer expected, and bytes expected in the tables after it. Further cases are data that the program replay_cases runs.
+-- Document 01, "Cases on each side": W1 to W14 and the errors that it names, with the cases that document 02 adds, as one list. A case is a run
+-- from fresh tables: each call with the answer expected, and bytes expected in the tables after it. Further cases are data that the program
+-- replay_cases runs.
 use Rattle.ranks.specs.Prelude.{ℕ, _+_, _*_, List, [], _∷_, _++_, map, length}
 use Rattle.ranks.specs.Lists.{numbersFrom}
 use Rattle.ranks.specs.Table.{slice}
@@ -146,7 +147,7 @@ D = 68 ∷ []
 abbrev AB : List ℕ
 AB = 65 ∷ 66 ∷ []
 
--- ---- W1 to W14
+-- ---- W1 to W14, and W15
 -- A task's first bytes are its state, queue, rank, priority, status and length; byte 8 has its ticks, byte 16 what it received.
 
 unfoldable pub paperCases : List Case
@@ -214,6 +215,26 @@ paperCases =
     (createBy 0 2 8 0 gives value 16 ∷ createBy 0 2 8 0 gives value 17 ∷ createBy 0 2 8 0 gives value 18
     ∷ createBy 0 2 8 0 gives value 19 ∷ createBy 0 2 8 0 gives refused 5 ∷ [])
     []
+    -- W15, document 02 [1]: "add a case for size 0". Queued: a buffer's owner byte tells that it is used, though its length is 0.
+    ∷ case
+    (createBy 0 2 0 0 gives refused 3 ∷ createBy 0 2 8 0 gives value 16 ∷ sendBy 0 16 [] gives done ∷ urgentBy 0 16 [] gives done
+    ∷ pendingBy 0 16 gives value 2 ∷ sendBy 0 16 [] gives refused 5 ∷ [])
+    (inQueueRecord 0 6 (2 ∷ 0 ∷ []) ∷ inBuffer 0 0 (1 ∷ 1 ∷ zeros 126) ∷ inBuffer 1 0 (1 ∷ zeros 127) ∷ [])
+    -- W15 received: status 0, value 0. The receive buffer keeps the two bytes of the message before; the buffer is zeroed, and the message
+    -- behind moves up.
+    ∷ case
+    (createBy 0 2 8 0 gives value 16 ∷ sendBy 0 16 AB gives done ∷ pollBy 1 16 gives value 2 ∷ sendBy 0 16 C gives done
+    ∷ urgentBy 0 16 [] gives done ∷ pendingBy 0 16 gives value 2 ∷ pollBy 1 16 gives value 0 ∷ pendingBy 0 16 gives value 1 ∷ [])
+    (inTask 1 0 (0 ∷ 0 ∷ 0 ∷ 2 ∷ zeros 12 ++ AB ++ zeros 118) ∷ inBuffer 1 0 (zeros bufferWidth) ∷ inBuffer 0 0 (1 ∷ 0 ∷ 1 ∷ zeros 5 ++ C) ∷ [])
+    -- W15 to waiters, by send, urgent and broadcast: each is woken with status 0 and length 0, and its receive buffer keeps the two bytes of the
+    -- message before. Nothing is queued, to none either.
+    ∷ case
+    (createBy 0 2 8 0 gives value 16 ∷ waitBy 1 16 0 gives waits ∷ waitBy 2 16 0 gives waits ∷ waitBy 3 16 0 gives waits
+    ∷ broadcastBy 0 16 AB gives answer 0 3 14 ∷ waitBy 1 16 0 gives waits ∷ waitBy 2 16 5 gives waits ∷ waitBy 3 16 0 gives waits
+    ∷ sendBy 0 16 [] gives wakes 2 ∷ urgentBy 0 16 [] gives wakes 4 ∷ broadcastBy 0 16 [] gives answer 0 1 8
+    ∷ broadcastBy 0 16 [] gives value 0 ∷ pendingBy 0 16 gives value 0 ∷ [])
+    (inTask 1 0 (0 ∷ 0 ∷ 0 ∷ 2 ∷ zeros 12 ++ AB) ∷ inTask 2 0 (0 ∷ 0 ∷ 0 ∷ 3 ∷ zeros 12 ++ AB) ∷ inTask 3 0 (0 ∷ 0 ∷ 0 ∷ 4 ∷ zeros 12 ++ AB)
+    ∷ inQueueRecord 0 6 (zeros 2) ∷ inBuffer 0 0 (zeros bufferWidth) ∷ [])
     ∷ []
 
 -- ---- "Errors we have made or seen". The sixth, "a poll that gives 6 though a message is there", is refused by W5 and W6.
@@ -223,7 +244,7 @@ errorCases =
     -- R8 "copying before the size test": the message is refused, a waiter keeps waiting, and no byte is written.
     case
     (createBy 0 2 1 0 gives value 16 ∷ waitBy 1 16 0 gives waits ∷ sendBy 0 16 AB gives refused 3 ∷ urgentBy 0 16 AB gives refused 3
-    ∷ broadcastBy 0 16 AB gives refused 3 ∷ sendBy 0 16 [] gives refused 3 ∷ [])
+    ∷ broadcastBy 0 16 AB gives refused 3 ∷ [])
     (inTask 1 0 (1 ∷ 1 ∷ 0 ∷ 2 ∷ 14 ∷ zeros 131) ∷ inQueueRecord 0 6 (0 ∷ 1 ∷ []) ∷ inBuffer 0 0 (zeros bufferWidth) ∷ [])
     -- T2 "a tick that skips the next waiter after taking one out": all whose last tick it is leave together, wherever they stand and in whatever
     -- queue; the others keep their order.

@@ -59,6 +59,7 @@ unfoldable pub freeBufferRules : Buffer → List Bool
 freeBufferRules m = eqb (m .position .rank) 0 ∷ eqb (m .messageLength) 0 ∷ allZero (m .reserved) ∷ allZero (m .bytes) ∷ []
 
 -- "A used one belongs to a live queue of its own share, has length 1 to that queue's max size, bytes 3-7 zero, and zeros after its message."
+-- Document 02 [1] overrules the 1: "a used buffer's length is 0 to the max size".
 -- Buffer `b` belongs to the queue `q` in the slot.
 unfoldable pub usedBufferRules : Queue → (slot b : ℕ) → Buffer → List Bool
 usedBufferRules q slot b m =
@@ -70,6 +71,7 @@ usedBufferRules q slot b m =
     ∷ allZero (drop (m .messageLength) (m .bytes))
     ∷ []
 
+-- "0 owner queue (slot+1, 0 free)": the owner byte alone tells a free buffer from a used one.
 unfoldable pub soundBuffer : State → ℕ → Buffer → Bool
 soundBuffer s b m =
     let slot = slotIn (m .position) in

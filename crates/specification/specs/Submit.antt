@@ -1,5 +1,5 @@
 -- What send and urgent share. Document 01: "2, 3 (size 0 or above max), then the waiter at rank 0 if any [...]. Else 5 if full, 13, else the
--- lowest free buffer of the owner's share".
+-- lowest free buffer of the owner's share". Document 02 [1] overrules "size 0": "Size 0 is now good for send, urgent and broadcast".
 use Rattle.ranks.specs.Prelude.{ℕ, suc, Bool, _&&_, not, List, [], _∷_, length, eqb, leb}
 use Rattle.ranks.specs.Lists.{if_then_else_, mapWithIndex, findIndex, mask}
 use Rattle.ranks.specs.Position.{positionAt}
@@ -15,7 +15,7 @@ use Rattle.specification.specs.Lookup.{usableQueue, firstWaiter, hasWait
 abbrev pub badSize : State → (slot : ℕ) (message : List ℕ) → Bool
 badSize s slot message = not (sizeAllowed (queueAt s slot) (length message))
 
--- buffer `b` is free and of the share
+-- buffer `b` is free, which its owner byte alone tells ("0 free"), and of the share
 abbrev pub isFreeOf : (share b : ℕ) → Buffer → Bool
 isFreeOf share b m = eqb (m .position .queue) 0 && eqb (shareOfBuffer b) share
 
@@ -23,7 +23,7 @@ isFreeOf share b m = eqb (m .position .queue) 0 && eqb (shareOfBuffer b) share
 unfoldable pub freeBufferOf : State → (share : ℕ) → ℕ
 freeBufferOf s share = findIndex (isFreeOf share) (s .pool)
 
--- "2, 3 (size 0 or above max), then the waiter at rank 0 if any [...]. Else 5 if full, 13"
+-- "2, 3 ([...] above max), then the waiter at rank 0 if any [...]. Else 5 if full, 13"
 unfoldable pub refusals : State → (slot : ℕ) (message : List ℕ) → List Refusal
 refusals s slot message =
     (badSize s slot message ⇒ INVALID-SIZE)

@@ -18,11 +18,11 @@ returns c = rw (sym (c .before .usable .ensures) ∙ not-true (c .before .usable
 
 returns-2 : tie.Need-returns-2
 unfolding firstStatus
-returns-2 c = rw (is-usable (c .before .before), sym (c .before .size-allowed .ensures) ∙ not-true _ (c .if2 .taken))
+returns-2 c = rw (is-usable (c .before .before), sym (c .before .size-allowed .ensures) ∙ not-true (c .before .size-allowed .result) (c .if2 .taken))
 
 returns-3 : tie.Need-returns-3
 unfolding firstStatus
-returns-3 c = rw (is-usable (c .before .before), sym (c .before .size-allowed .ensures) ∙ not-false _ (c .if2 .left))
+returns-3 c = rw (is-usable (c .before .before), sym (c .before .size-allowed .ensures) ∙ not-false (c .before .size-allowed .result) (c .if2 .left))
 
 pub refusal-spec : {M : Type 1} → statement M
 refusal-spec = tie.close (tie.spec (search needs) returns (search needs) returns-2 returns-3)

@@ -23,7 +23,7 @@
  *
  * A buffer is lent as a pointer and its length in bytes. The library cannot test the following, so the host sees to it:
  *
- *   - No pointer is NULL, even where the length is 0 as for a message of no bytes, and all the bytes lent are there.
+ *   - No pointer is NULL, even where the length is 0, as for an empty message, and all the bytes lent are there.
  *   - The buffers of a call do not overlap. What is lent as const is not written.
  *   - Nobody else reads or writes them during the call: one call at a time over the same tables.
  *   - Between calls the host reads the tables as it likes and writes nothing there. No task can reach them.
@@ -66,7 +66,7 @@
  * record of task t, which starts at byte 136 * t of the tasks, the host then finds:
  *
  *   4      how the receive ended: SUCCESSFUL with a message, TIMEOUT or OBJECT_WAS_DELETED without
- *   5      length of the message, 0 for one of no bytes; 0 without one. Byte 4 tells which.
+ *   5      length of the message, 0 for an empty one; 0 without one. Byte 4 tells which.
  *   16..   the message. The bytes behind its length are left over from earlier ones.
  */
 #ifndef MESSAGE_MANAGER_H
@@ -137,7 +137,7 @@ uint32_t message_manager_fresh_tables(
  *
  *   name        1 or more; names may repeat
  *   limit       1 to 16: how many messages it can hold. A share has 16 buffers for the limits of all its queues.
- *   max_size    1 to 120: how many bytes a message may have
+ *   max_size    1 to 120: how many bytes a message may have at most
  *   attributes  0 to 3: MESSAGE_QUEUE_PRIORITY, MESSAGE_QUEUE_OPEN
  *
  * Value: the id. Wakes nobody. Status: first the common tests, then
@@ -189,7 +189,7 @@ uint32_t message_queue_delete(
 /*
  * Sends a message. The first task that waits in the queue gets it at once; where none waits, it is queued at the rear.
  *
- *   message, message_size  the bytes: 0 to the queue's max_size. They are copied. A message of no bytes is one too.
+ *   message, message_size  the bytes: 0 to the queue's max_size. They are copied. A message may be empty.
  *
  * Value: 0. Wakes the task that got the message, with SUCCESSFUL. Status: first the common tests, then
  *   INVALID_ID    id not usable
@@ -215,7 +215,7 @@ uint32_t message_queue_urgent(
 /*
  * Sends a message to every task that waits in the queue. Nothing is queued: where none waits, nothing happens.
  *
- *   message, message_size  the bytes: 0 to the queue's max_size. They are copied. A message of no bytes is one too.
+ *   message, message_size  the bytes: 0 to the queue's max_size. They are copied. A message may be empty.
  *
  * Value: how many tasks got it. Wakes them all, with SUCCESSFUL. Status: first the common tests, then
  *   INVALID_ID    id not usable
@@ -235,7 +235,7 @@ uint32_t message_queue_broadcast(
  *   option  MESSAGE_QUEUE_WAIT or MESSAGE_QUEUE_NO_WAIT
  *   ticks   how many ticks to wait, 0 for ever; not looked at with MESSAGE_QUEUE_NO_WAIT
  *
- * Value: the length of the message received, 0 for one of no bytes; 0 with WAITING. Wakes nobody. Status: first the
+ * Value: the length of the message received, 0 for an empty one; 0 with WAITING. Wakes nobody. Status: first the
  * common tests, then
  *   INVALID_ID      id not usable
  *   INVALID_OPTION  option above 1
@@ -350,7 +350,10 @@ static inline const uint8_t *message_manager_task_record(const uint8_t *tasks, u
     return tasks + (size_t)MESSAGE_MANAGER_TASK_RECORD_SIZE * task;
 }
 
-/* How the last receive of a task ended: SUCCESSFUL, TIMEOUT or OBJECT_WAS_DELETED; WAITING while it waits. */
+/*
+ * How the last receive of a task ended: SUCCESSFUL, TIMEOUT or OBJECT_WAS_DELETED; WAITING while it waits. SUCCESSFUL
+ * also before its first receive: that a message came, empty or not, is told by the answer or the mask.
+ */
 static inline uint32_t message_manager_task_status(const uint8_t *tasks, uint32_t task)
 {
     return message_manager_task_record(tasks, task)[4];

@@ -45,7 +45,7 @@ static void show_call(const char *format, ...)
     printf("%*s", 52 - width, "");
 }
 
-/* How the last receive of a task ended, with the message that it got, which may have no bytes. */
+/* How the last receive of a task ended, with the message that it got, which may be empty. */
 static void show_received(uint32_t task)
 {
     const uint32_t status = message_manager_task_status(tables.tasks, task);
@@ -199,7 +199,7 @@ int main(void)
     receive(host, levels, MESSAGE_QUEUE_WAIT, 0);
     send(guest, levels, "level 41");
 
-    /* a heartbeat: a message of no bytes */
+    /* a heartbeat: an empty message */
     send(guest, levels, "");
     get_number_pending(host, levels);
     receive(host, levels, MESSAGE_QUEUE_NO_WAIT, 0);

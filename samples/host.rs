@@ -241,7 +241,7 @@ impl Host {
 
     // ---- In words
 
-    /// How the last receive of a task ended, with the message that it got, which may have no bytes.
+    /// How the last receive of a task ended, with the message that it got, which may be empty.
     fn show_received(&self, task: u32) {
         let record = &self.tasks[TASK_RECORD_SIZE * task as usize..][..TASK_RECORD_SIZE];
         let (status, message) = (u32::from(record[4]), &record[16..][..usize::from(record[5])]);
@@ -355,7 +355,7 @@ fn main() {
     host.receive(task, levels, WAIT, 0);
     host.send(guest, levels, "level 41");
 
-    // a heartbeat: a message of no bytes
+    // a heartbeat: an empty message
     host.send(guest, levels, "");
     host.get_number_pending(task, levels);
     host.receive(task, levels, NO_WAIT, 0);

@@ -209,7 +209,7 @@ def refusal_cases():
          (pending(0, 16), value(1))],
         [],
     )
-    # R4 send and urgent: 11, 2, 3, 5. Broadcast: 11, 2, 3. A message of no bytes comes as far as the others.
+    # R4 send and urgent: 11, 2, 3, 5. Broadcast: 11, 2, 3. An empty message passes test 3.
     yield Case(
         "R4", FRESH,
         [(create(0, 1, 1, 0), value(16)), (send(0, 16, A), done), (send(32, 32, AB), refused(11)), (send(0, 32, AB), refused(2)),
@@ -407,8 +407,8 @@ def message_cases():
          (wait(1, 17, 0), waits), (flush(0, 17), value(0)), (poll(2, 16), value(1))],
         [task(1, 0, [1, 2, 0, 2, 14, 0]), task(2, 16, A)],
     )
-    # M9 messages of no bytes keep their place in the line, each in a buffer of its own; received, they leave all 120 bytes of the receive
-    # buffer, and their buffers are the lowest free ones.
+    # M9 empty messages keep their place in the line, each in a buffer of its own; received, they leave all 120 bytes of the receive buffer,
+    # and the lower of their two buffers is used next.
     yield Case(
         "M9", FRESH,
         [(create(0, 4, 120, 0), value(16)), (send(0, 16, numbers(1, 120)), done), (poll(1, 16), value(120)), (send(0, 16, EMPTY), done),
@@ -418,14 +418,14 @@ def message_cases():
         [task(1, 0, [0, 0, 0, 2, *zeros(12), *numbers(1, 120)]), buffer(0, 0, [1, 2, *zeros(126)]), buffer(1, 0, [1, 0, 1, *zeros(5), *A]),
          buffer(2, 0, zeros(128)), buffer(3, 0, [1, 1, 1, *zeros(5), *B]), queue(0, 6, [3, 0])],
     )
-    # M10 messages of no bytes are counted and removed as others are: by flush, and by delete.
+    # M10 empty messages are counted and removed as others are: by flush, and by delete.
     yield Case(
         "M10", FRESH,
         [(create(0, 2, 1, 0), value(16)), (create(0, 2, 1, 0), value(17)), (send(0, 16, EMPTY), done), (send(0, 17, EMPTY), done),
          (send(0, 16, EMPTY), done), (flush(0, 16), value(2)), (pending(0, 17), value(1)), (delete(0, 17), done), (send(0, 16, EMPTY), done)],
         [buffer(0, 0, [1, *zeros(127)]), buffer(1, 0, zeros(128)), buffer(2, 0, zeros(128)), queue(0, 6, [1, 0])],
     )
-    # M11 a message of no bytes in an OPEN queue: a foreign task's goes to a foreign waiter, and then into a buffer of the owner's share.
+    # M11 empty messages to an OPEN queue, from a foreign task: one goes to a foreign waiter, the next into a buffer of the owner's share.
     yield Case(
         "M11", FRESH,
         [(create(8, 2, 8, 3), value(20)), (wait(31, 20, 7), waits), (urgent(0, 20, EMPTY), wakes(1 << 31)), (urgent(0, 20, EMPTY), done),
@@ -487,7 +487,7 @@ def waiter_cases():
 def image_cases():
     # X1 10 goes before 11 and before every refusal of a directive, and is all that a tick can be refused with.
     unsound = written(NINES, task(31, 3, [0]))
-    for call in (create_named(32, 0, 0, 0, 4), ident(32, 0, 4), delete(32, 0), send(32, 0, []), urgent(32, 0, []), broadcast(32, 0, []),
+    for call in (create_named(32, 0, 0, 0, 4), ident(32, 0, 4), delete(32, 0), send(32, 0, A), urgent(32, 0, A), broadcast(32, 0, A),
                  poll(32, 0), pending(32, 0), flush(32, 0), tick()):
         yield Case(f"X1 operation {call[0]}", unsound, [(call, refused(10))], [task(31, 0, zeros(136))])
     # X2 a free slot at generation 65,535 is spent for good.
@@ -526,7 +526,7 @@ def image_cases():
         [task(1, 16, [21, 22]), task(7, 16, [1]), task(8, 4, [0, 1, *zeros(10), 255, *numbers(2, 119)]), buffer(1, 0, [1, 0, 10]),
          buffer(5, 0, zeros(128)), buffer(47, 0, zeros(128)), buffer(63, 0, zeros(128))],
     )
-    # X7 a message of no bytes in a buffer that is zero but for its owner byte; the receive buffer of task 8, of 120 bytes, stays whole.
+    # X7 an empty message in a buffer that is zero but for its owner byte; the receive buffer of task 8, of 120 bytes, stays whole.
     yield Case(
         "X7", written(BASE, buffer(47, 2, zeros(7))),
         [(pending(8, 25), value(1)), (send(16, 25, EMPTY), refused(5)), (poll(8, 25), value(0)), (pending(8, 25), value(0))],
@@ -618,7 +618,7 @@ def buffer_rules():
     yield broken("buffer 3 of slot 16", buffer_3_of(16))
     yield broken("buffer 3 of slot 254", buffer_3_of(254))
     yield broken("buffer 3 of another share", buffer_3_of(8), queue(8, 6, [1]))
-    # Document 02, [1]: "a used buffer's length is 0 to the max size". Buffer 1 has length 10.
+    # Document 02, [1]: "a used buffer's length is 0 to the max size". What is broken at length 0 is another rule.
     yield sound("length 0", buffer(0, 2, zeros(7)))
     yield sound("length 0, only the owner not 0", buffer(47, 2, zeros(7)))
     yield sound("length 0, three messages", buffer(0, 2, zeros(7)), buffer(1, 2, zeros(16)), buffer(5, 2, zeros(8)))
@@ -631,6 +631,7 @@ def buffer_rules():
         yield broken(f"length 0: byte {place}", buffer(0, 2, zeros(7)), buffer(0, place, [1]))
     for place in 8, 9, 16, 126, 127:
         yield broken(f"length 0: byte {place} after it", buffer(0, 2, zeros(7)), buffer(0, place, [1]))
+    # Buffer 1 has length 10.
     yield sound("length of max size", queue(0, 3, [10]))
     yield broken("length above max size", queue(0, 3, [9]))
     yield broken("length 121", buffer(63, 2, [121]))

@@ -56,8 +56,9 @@ callRecordCases =
     ∷ (begins (10 ∷ 1 ∷ []) says Malformed)
     ∷ (carries 8 0 (65 ∷ []) says Malformed)
     ∷ (begins (9 ∷ 3 ∷ 0 ∷ 0 ∷ 16 ∷ replicate 10 0 ++ (1 ∷ [])) says Malformed)
-    -- "message, zero after its size": a byte after a message of one byte
+    -- "message, zero after its size": a byte after a message of one byte, and after an empty one
     ∷ (carries 4 1 (65 ∷ 66 ∷ []) says Malformed)
+    ∷ (carries 4 0 (65 ∷ []) says Malformed)
     -- "a size above 120": 121 and 255
     ∷ (carries 4 121 (replicate 120 65) says Malformed)
     ∷ (carries 4 255 (replicate 120 65) says Malformed)

@@ -86,12 +86,12 @@ recordCases =
     -- a message of two bytes at rank 2 of the queue in slot 4, and a message that moves there
     ∷ (encodeBuffer (messageBuffer (positionAt 4 2) (201 ∷ 202 ∷ [])) are (5 ∷ 2 ∷ 2 ∷ zeros 5 ++ (201 ∷ 202 ∷ zeros 118)))
     ∷ (encodeBuffer (moveBuffer (positionAt 4 2) exampleBuffer) are (5 ∷ 2 ∷ numbersFrom 3 126))
-    -- a message of no bytes at rank 0 of that queue: only the owner byte is not zero
+    -- an empty message at rank 0 of that queue: only the owner byte is not zero
     ∷ (encodeBuffer (messageBuffer (positionAt 4 0) []) are (5 ∷ zeros 127))
     -- "message copied, status 0, length set"; queue, rank and ticks are 0; "bytes beyond the length stay as they were"
     ∷ (encodeTask (withMessage (201 ∷ 202 ∷ 203 ∷ []) exampleTask)
     are (0 ∷ 0 ∷ 0 ∷ 4 ∷ 0 ∷ 3 ∷ 7 ∷ 8 ∷ 0 ∷ 0 ∷ 0 ∷ 0 ∷ 13 ∷ 14 ∷ 15 ∷ 16 ∷ 201 ∷ 202 ∷ 203 ∷ numbersFrom 20 117))
-    -- the same of a message of no bytes: the whole receive buffer stays
+    -- the same of an empty message: the whole receive buffer stays
     ∷ (encodeTask (withMessage [] exampleTask) are (0 ∷ 0 ∷ 0 ∷ 4 ∷ 0 ∷ 0 ∷ 7 ∷ 8 ∷ 0 ∷ 0 ∷ 0 ∷ 0 ∷ numbersFrom 13 124))
     -- a task that timed out
     ∷ (encodeTask (readyWith TIMEOUT exampleTask) are (0 ∷ 0 ∷ 0 ∷ 4 ∷ 7 ∷ 6 ∷ 7 ∷ 8 ∷ 0 ∷ 0 ∷ 0 ∷ 0 ∷ numbersFrom 13 124))

@@ -49,7 +49,7 @@ impl QueueRecord {
         self.attributes / 2 % 2 == 1
     }
 
-    // A message of the queue may have this size. One of no bytes may be in any queue.
+    // A message of the queue may have this size: 0 to the max size.
     pub fn size_allowed(self, size: usize) -> bool
         ensures { λ r. ⌜ r ≡ sizeAllowed self size ⌝ }
     {

@@ -1,4 +1,4 @@
--- Demand 1: each refusal comes exactly where document 01 says and changes nothing. Assumes nothing.
+-- Demand 1: each refusal comes exactly where the documents say and changes nothing. Assumes nothing.
 use Prim.Native.Nat.{ℕ, _≤_, _<_}
 use native.Mathlib.Omega.{arith}
 use mathlib.Core.Path.{_≡_, refl, sym, ap, _∙_, subst}

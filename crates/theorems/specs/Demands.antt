@@ -28,7 +28,7 @@ pub record LayoutHolds : Type 0 where
   pub encoded : (s : State) → FieldsInRange s → ByteTables (encode s)
   pub fresh : (priorities : List ℕ) → goodPriorities priorities ≡ true → SoundTables (freshTables priorities)
 
--- ---- Demand 1: for any tables and any call, each refusal comes exactly where document 01 says and changes nothing
+-- ---- Demand 1: for any tables and any call, each refusal comes exactly where the documents say and changes nothing
 
 -- The status is that of the first reason in the list that holds.
 pub data FirstThatHolds (status : ℕ) : List Refusal → Type 0 where

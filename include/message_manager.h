@@ -68,6 +68,8 @@
  *   4      how the receive ended: SUCCESSFUL with a message, TIMEOUT or OBJECT_WAS_DELETED without
  *   5      length of the message, 0 for an empty one; 0 without one. Byte 4 tells which.
  *   16..   the message. The bytes behind its length are left over from earlier ones.
+ *
+ * A refused receive, UNSATISFIED too, writes nothing there.
  */
 #ifndef MESSAGE_MANAGER_H
 #define MESSAGE_MANAGER_H
@@ -351,8 +353,10 @@ static inline const uint8_t *message_manager_task_record(const uint8_t *tasks, u
 }
 
 /*
- * How the last receive of a task ended: SUCCESSFUL, TIMEOUT or OBJECT_WAS_DELETED; WAITING while it waits. SUCCESSFUL
- * also before its first receive: that a message came, empty or not, is told by the answer or the mask.
+ * How the last receive of a task that was not refused ended: SUCCESSFUL with a message, empty or not, TIMEOUT or
+ * OBJECT_WAS_DELETED without; WAITING while it waits. To be read when receive has returned SUCCESSFUL to the task, or
+ * when a mask has its bit: a refused receive, UNSATISFIED too, leaves it as it was, and before the first receive it is
+ * SUCCESSFUL.
  */
 static inline uint32_t message_manager_task_status(const uint8_t *tasks, uint32_t task)
 {

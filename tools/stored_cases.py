@@ -407,8 +407,8 @@ def message_cases():
          (wait(1, 17, 0), waits), (flush(0, 17), value(0)), (poll(2, 16), value(1))],
         [task(1, 0, [1, 2, 0, 2, 14, 0]), task(2, 16, A)],
     )
-    # M9 empty messages keep their place in the line, each in a buffer of its own; received, they leave all 120 bytes of the receive buffer,
-    # and the lower of their two buffers is used next.
+    # M9 empty messages keep their place in the line, each in a buffer of its own; received, they leave all 120 bytes of the receive buffer
+    # as they were, and the lower of their two buffers is used next.
     yield Case(
         "M9", FRESH,
         [(create(0, 4, 120, 0), value(16)), (send(0, 16, numbers(1, 120)), done), (poll(1, 16), value(120)), (send(0, 16, EMPTY), done),
@@ -618,7 +618,7 @@ def buffer_rules():
     yield broken("buffer 3 of slot 16", buffer_3_of(16))
     yield broken("buffer 3 of slot 254", buffer_3_of(254))
     yield broken("buffer 3 of another share", buffer_3_of(8), queue(8, 6, [1]))
-    # Document 02, [1]: "a used buffer's length is 0 to the max size". What is broken at length 0 is another rule.
+    # Document 02, [1]: "a used buffer's length is 0 to the max size". The images that are broken here break another rule.
     yield sound("length 0", buffer(0, 2, zeros(7)))
     yield sound("length 0, only the owner not 0", buffer(47, 2, zeros(7)))
     yield sound("length 0, three messages", buffer(0, 2, zeros(7)), buffer(1, 2, zeros(16)), buffer(5, 2, zeros(8)))

@@ -8,7 +8,7 @@ use Rattle.specification.specs.Answer.{Outcome, outcome, Refusal, _⇒_}
 use Rattle.specification.specs.Lookup.{usableQueue, waitersOf, withoutWaiters}
 use Rattle.specification.specs.Submit.{badSize}
 
--- "2, 3"
+-- "2, 3". Document 02 [1]: "Size 0 is now good for send, urgent and broadcast".
 unfoldable pub refusals : State → (slot : ℕ) (message : List ℕ) → List Refusal
 refusals s slot message = (badSize s slot message ⇒ INVALID-SIZE) ∷ []
 

@@ -222,7 +222,7 @@ paperCases =
     ∷ pendingBy 0 16 gives value 2 ∷ sendBy 0 16 [] gives refused 5 ∷ [])
     (inQueueRecord 0 6 (2 ∷ 0 ∷ []) ∷ inBuffer 0 0 (1 ∷ 1 ∷ zeros 126) ∷ inBuffer 1 0 (1 ∷ zeros 127) ∷ [])
     -- W15, "a receive of one gives status 0 and value 0": one that was sent, and one that was put before another. The receive buffer keeps the
-    -- two bytes that were received before; the buffer is zeroed, and the message behind moves up.
+    -- two bytes that were received before; the message's own buffer is zeroed, and the message behind moves up.
     ∷ case
     (createBy 0 2 8 0 gives value 16 ∷ sendBy 0 16 AB gives done ∷ pollBy 1 16 gives value 2
     ∷ sendBy 0 16 [] gives done ∷ pendingBy 0 16 gives value 1 ∷ pollBy 1 16 gives value 0 ∷ pendingBy 0 16 gives value 0
@@ -230,7 +230,7 @@ paperCases =
     ∷ pendingBy 0 16 gives value 1 ∷ [])
     (inTask 1 0 (0 ∷ 0 ∷ 0 ∷ 2 ∷ zeros 12 ++ AB ++ zeros 118) ∷ inBuffer 1 0 (zeros bufferWidth) ∷ inBuffer 0 0 (1 ∷ 0 ∷ 1 ∷ zeros 5 ++ C) ∷ [])
     -- W15, to waiters by send, urgent and broadcast: each is woken with status 0 and length 0, and its receive buffer keeps the two bytes that
-    -- it received before. Nothing is queued, nor by a broadcast to none.
+    -- it received before. A broadcast to none queues nothing.
     ∷ case
     (createBy 0 2 8 0 gives value 16 ∷ waitBy 1 16 0 gives waits ∷ waitBy 2 16 0 gives waits ∷ waitBy 3 16 0 gives waits
     ∷ broadcastBy 0 16 AB gives answer 0 3 14 ∷ waitBy 1 16 0 gives waits ∷ waitBy 2 16 5 gives waits ∷ waitBy 3 16 0 gives waits

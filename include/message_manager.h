@@ -24,7 +24,7 @@
  * A buffer is lent as a pointer and its length in bytes. The library cannot test the following, so the host sees to it:
  *
  *   - No pointer is NULL, even where the length is 0, as for an empty message, and all the bytes lent are there.
- *   - The buffers of a call do not overlap. What is lent as const is not written.
+ *   - The buffers of a call do not overlap, but for two that are both const. What is lent as const is not written.
  *   - Nobody else reads or writes them during the call: one call at a time over the same tables.
  *   - Between calls the host reads the tables as it likes and writes nothing there. No task can reach them.
  *   - `caller` is the number of the task that makes the call, 0 to 31. It comes from the dispatcher and is trusted; no
@@ -33,7 +33,7 @@
  *
  * ANSWERS
  *
- * Each call returns its status and writes an answer record of 16 bytes:
+ * A function that is lent an answer buffer returns its status and writes an answer record of 16 bytes:
  *
  *   0      status, the number returned
  *   1      operation: 1 create, 2 ident, 3 delete, 4 send, 5 urgent, 6 broadcast, 7 receive, 8 get number pending,
@@ -87,9 +87,11 @@ extern "C" {
 #define MESSAGE_MANAGER_TASKS_SIZE 4352
 #define MESSAGE_MANAGER_ANSWER_SIZE 16
 #define MESSAGE_MANAGER_RECORD_SIZE 136 /* a call record of a log */
+#define MESSAGE_MANAGER_IMAGE_SIZE 12800 /* an image: queues, pool and tasks, one behind the other */
 
 #define MESSAGE_MANAGER_TASK_COUNT 32
 #define MESSAGE_MANAGER_TASK_RECORD_SIZE 136
+#define MESSAGE_MANAGER_IMAGE_RECORD_COUNT 112 /* records of the three tables */
 
 enum message_queue_status {
     MESSAGE_QUEUE_SUCCESSFUL = 0,                /* done */
@@ -327,6 +329,36 @@ uint32_t message_manager_replay(
     uint8_t *queues, size_t queues_size, uint8_t *pool, size_t pool_size, uint8_t *tasks, size_t tasks_size,
     const uint8_t *log, size_t log_size,
     uint8_t *answers, size_t answers_size);
+
+/* An answer by value. */
+struct message_manager_answer {
+    uint32_t status;
+    uint32_t value;
+    uint32_t woken;
+};
+
+/* A record in which two images differ. */
+struct message_manager_difference {
+    uint8_t table;  /* 0 queues, 1 pool, 2 tasks */
+    uint8_t record; /* its number in the table */
+    uint8_t place;  /* the first byte in it that differs */
+    uint8_t count;  /* how many bytes in it differ */
+};
+
+/*
+ * Lists the records in which two images differ: queues, then pool, then tasks, each table from its first record on. An
+ * image is the three tables one behind the other; it need not be sound.
+ *
+ *   list, room  room for 112 entries or more, counted in entries. Those past the value stay as they were.
+ *
+ * Value: how many records differ. Wakes nobody. Status:
+ *   BAD_SHAPE   an image is shorter or longer than it must be, or there is room for fewer than 112 entries, however
+ *               many records differ: no entry has been written
+ *   SUCCESSFUL
+ */
+struct message_manager_answer message_manager_compare(
+    const uint8_t *one, size_t one_size, const uint8_t *two, size_t two_size,
+    struct message_manager_difference *list, size_t room);
 
 /* A little-endian number. */
 static inline uint32_t message_manager_read_u32(const uint8_t *bytes)

@@ -9,6 +9,7 @@
 #include <stdio.h>
 #include <string.h>
 
+/* One behind the other, as in an image. */
 struct tables {
     uint8_t queues[MESSAGE_MANAGER_QUEUES_SIZE];
     uint8_t pool[MESSAGE_MANAGER_POOL_SIZE];
@@ -68,6 +69,22 @@ static void show_answer(void)
     for (task = 0; task < MESSAGE_MANAGER_TASK_COUNT; task++)
         if (woken >> task & 1)
             show_received(task);
+}
+
+/* What has changed in the tables since before: a line for each record. */
+static void show_changes(const struct tables *before)
+{
+    static const char *const names[] = { "queue", "buffer", "task" };
+    static struct message_manager_difference list[MESSAGE_MANAGER_IMAGE_RECORD_COUNT];
+    const struct message_manager_answer compared = message_manager_compare(
+        (const uint8_t *)before, sizeof *before, (const uint8_t *)&tables, sizeof tables,
+        list, MESSAGE_MANAGER_IMAGE_RECORD_COUNT);
+    uint32_t i;
+    for (i = 0; i < compared.value; i++)
+        printf("    %s %u: first change at byte %u, bytes changed: %u\n", names[list[i].table], list[i].record, list[i].place,
+               list[i].count);
+    if (compared.status == MESSAGE_QUEUE_SUCCESSFUL && compared.value == 0)
+        printf("    no table byte changed\n");
 }
 
 /* ---- The calls of a task: the host knows which task runs, and passes its number */
@@ -173,13 +190,14 @@ static void try_refused_sends(uint32_t guest, uint32_t levels, uint32_t limits)
     struct tables before = tables;
     send(guest, levels, "level 40 on all 22");
     send(guest, limits, "level 40");
-    printf("    %s\n", memcmp(&before, &tables, sizeof tables) == 0 ? "no table byte changed" : "the tables changed");
+    show_changes(&before);
 }
 
 int main(void)
 {
     const uint32_t host = 0, other = 1, guest = 8;
     uint32_t levels, limits;
+    struct tables before;
     if (make_fresh_tables() != MESSAGE_QUEUE_SUCCESSFUL)
         return 1;
 
@@ -190,7 +208,9 @@ int main(void)
     ident(guest, "LEVL", 0);
     send(guest, levels, "level 40");
     try_refused_sends(guest, levels, limits);
+    before = tables;
     urgent(guest, levels, "stop");
+    show_changes(&before);
 
     get_number_pending(host, levels);
     receive(host, levels, MESSAGE_QUEUE_NO_WAIT, 0);

@@ -10,6 +10,7 @@ mod message_manager {
     pub const TASKS_SIZE: usize = 4352;
     pub const TASK_COUNT: usize = 32;
     pub const TASK_RECORD_SIZE: usize = 136;
+    pub const IMAGE_RECORD_COUNT: usize = 112;
     const ANSWER_SIZE: usize = 16;
 
     pub const OPEN: u32 = 2;
@@ -23,10 +24,20 @@ mod message_manager {
         "NO_BUFFER", "WAITING", "INVALID_OPTION", "BAD_SHAPE",
     ];
 
+    #[repr(C)]
     pub struct Answer {
         pub status: u32,
         pub value: u32,
         pub woken: u32,
+    }
+
+    #[repr(C)]
+    #[derive(Clone, Copy, Default)]
+    pub struct Difference {
+        pub table: u8,
+        pub record: u8,
+        pub place: u8,
+        pub count: u8,
     }
 
     extern "C" {
@@ -86,6 +97,9 @@ mod message_manager {
             queues: *mut u8, queues_size: usize, pool: *const u8, pool_size: usize, tasks: *mut u8, tasks_size: usize,
             answer: *mut u8, answer_size: usize,
         ) -> u32;
+        fn message_manager_compare(
+            one: *const u8, one_size: usize, two: *const u8, two_size: usize, list: *mut Difference, room: usize,
+        ) -> Answer;
     }
 
     /// Lends an answer buffer to a call, given as its place and length, and reads the answer record.
@@ -209,11 +223,16 @@ mod message_manager {
             )
         })
     }
+
+    pub fn compare(one: &[u8], two: &[u8], list: &mut [Difference]) -> Answer {
+        unsafe {
+            message_manager_compare(one.as_ptr(), one.len(), two.as_ptr(), two.len(), list.as_mut_ptr(), list.len())
+        }
+    }
 }
 
 use message_manager::*;
 
-#[derive(Clone, PartialEq)]
 struct Host {
     queues: [u8; QUEUES_SIZE],
     pool: [u8; POOL_SIZE],
@@ -260,6 +279,24 @@ impl Host {
         woken.iter().for_each(|task| print!(" {task}"));
         println!();
         woken.iter().for_each(|task| self.show_received(*task));
+    }
+
+    /// The three tables, one behind the other.
+    fn image(&self) -> Vec<u8> {
+        [&self.queues[..], &self.pool[..], &self.tasks[..]].concat()
+    }
+
+    /// What has changed in the tables since before: a line for each record.
+    fn show_changes(&self, before: &[u8]) {
+        let mut list = [Difference::default(); IMAGE_RECORD_COUNT];
+        let compared = compare(before, &self.image(), &mut list);
+        for d in &list[..compared.value as usize] {
+            let name = ["queue", "buffer", "task"][usize::from(d.table)];
+            println!("    {name} {}: first change at byte {}, bytes changed: {}", d.record, d.place, d.count);
+        }
+        if compared.status == SUCCESSFUL && compared.value == 0 {
+            println!("    no table byte changed");
+        }
     }
 
     // ---- The calls of a task: the host knows which task runs, and passes its number
@@ -326,10 +363,10 @@ impl Host {
 
     /// A message that is too long, and a closed queue of another share: the tables stay as they are.
     fn try_refused_sends(&mut self, guest: u32, levels: u32, limits: u32) {
-        let before = self.clone();
+        let before = self.image();
         self.send(guest, levels, "level 40 on all 22");
         self.send(guest, limits, "level 40");
-        println!("    {}", if *self == before { "no table byte changed" } else { "the tables changed" });
+        self.show_changes(&before);
     }
 }
 
@@ -346,7 +383,9 @@ fn main() {
     host.ident(guest, "LEVL", 0);
     host.send(guest, levels, "level 40");
     host.try_refused_sends(guest, levels, limits);
+    let before = host.image();
     host.urgent(guest, levels, "stop");
+    host.show_changes(&before);
 
     host.get_number_pending(task, levels);
     host.receive(task, levels, NO_WAIT, 0);

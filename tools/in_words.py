@@ -9,6 +9,7 @@ STATUS = [
     "OBJECT_WAS_DELETED", "INVALID_NODE", "CORRUPT", "BAD_CALLER", "ILLEGAL_ON_REMOTE_OBJECT", "NO_BUFFER", "WAITING",
     "INVALID_OPTION", "BAD_SHAPE",
 ]
+RECORD_NAMES = "queue", "buffer", "task"  # by the number of the table
 OPERATIONS = dict(enumerate("create ident delete send urgent broadcast receive pending flush tick".split(), 1))
 
 
@@ -73,10 +74,16 @@ def answer_in_words(answer):
     return text + f", first byte {a.first_byte}" + (f", reserved bytes {rest.hex(' ')}" if any(rest) else "")
 
 
+def image_records():
+    """The records of an image in order: table (0 queues, 1 pool, 2 tasks), number in it, where it starts, how many bytes it has."""
+    start = 0
+    for table, (count, layout) in enumerate([(16, QUEUE), (64, BUFFER), (32, TASK)]):
+        for number in range(count):
+            yield table, number, start, layout.form.size
+            start += layout.form.size
+
+
 def place_in_words(place):
     """The record and the byte in it that a byte of an image is."""
-    if place < QUEUES:
-        return f"queue {place // 16}, byte {place % 16}"
-    if place < QUEUES + POOL:
-        return f"buffer {(place - QUEUES) // 128}, byte {(place - QUEUES) % 128}"
-    return f"task {(place - QUEUES - POOL) // 136}, byte {(place - QUEUES - POOL) % 136}"
+    table, number, start, _ = [record for record in image_records() if record[2] <= place][-1]
+    return f"{RECORD_NAMES[table]} {number}, byte {place - start}"

@@ -1,4 +1,5 @@
--- Document 01, "Tables": how many records each table has, how many bytes a record has, where its fields stand, and what an id is.
+-- Document 01, "Tables": how many records each table has, how many bytes a record has, where its fields stand, where a table stands in an
+-- image, and what an id is.
 use Rattle.ranks.specs.Prelude.{ℕ, _+_, _*_, _/_, _%_}
 
 -- "8-127 data"; "16-135 the task's receive buffer"
@@ -56,6 +57,22 @@ taskWidth = taskData + capacity
 
 abbrev pub tasksSize : ℕ
 tasksSize = taskCount * taskWidth
+
+-- "An image is the three tables in this order, 12,800 bytes.": where each table stands in it, its size, and how many records it has
+abbrev pub queuesPlace : ℕ
+queuesPlace = 0
+
+abbrev pub poolPlace : ℕ
+poolPlace = queuesPlace + queuesSize
+
+abbrev pub tasksPlace : ℕ
+tasksPlace = poolPlace + poolSize
+
+abbrev pub imageSize : ℕ
+imageSize = tasksPlace + tasksSize
+
+abbrev pub imageRecordCount : ℕ
+imageRecordCount = slotCount + bufferCount + taskCount
 
 -- "Takes the lowest free slot of the caller's share with generation below 65,535"
 abbrev pub lastGeneration : ℕ

@@ -1,4 +1,5 @@
-// Document 01, "Tables": how many records each table has, how many bytes a record has, and where its fields stand.
+// Document 01, "Tables": how many records each table has, how many bytes a record has, where its fields stand, and where a table stands in
+// an image.
 pub const CAPACITY: usize = 120;
 
 pub const LARGEST_LIMIT: usize = 16;
@@ -20,6 +21,17 @@ pub const TASK_COUNT: usize = 32;
 pub const TASK_WIDTH: usize = TASK_DATA + CAPACITY;
 
 pub const TASKS_SIZE: usize = TASK_COUNT * TASK_WIDTH;
+
+// "An image is the three tables in this order": where each table stands in it, its size, and how many records it has.
+pub const QUEUES_PLACE: usize = 0;
+
+pub const POOL_PLACE: usize = QUEUES_PLACE + QUEUES_SIZE;
+
+pub const TASKS_PLACE: usize = POOL_PLACE + POOL_SIZE;
+
+pub const IMAGE_SIZE: usize = TASKS_PLACE + TASKS_SIZE;
+
+pub const IMAGE_RECORD_COUNT: usize = SLOT_COUNT + BUFFER_COUNT + TASK_COUNT;
 
 pub const SHARE_COUNT: usize = 4;
 

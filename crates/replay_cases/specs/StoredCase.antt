@@ -1,6 +1,6 @@
 -- A stored case: whether a log, replayed from the tables of an image, is answered as stored and leaves the tables as stored.
 use Rattle.bytes.specs.LittleEndian.{byteValues}
-use Rattle.records.specs.Layout.{queuesSize, poolSize, tasksSize}
+use Rattle.records.specs.Layout.{queuesSize, poolSize, tasksSize, queuesPlace, poolPlace, tasksPlace}
 use Rattle.ranks.specs.Prelude.{ℕ, _+_, _*_, Bool, _&&_, List, [], _∷_, length, set, eqb}
 use Rattle.ranks.specs.Table.{slice}
 use Rattle.records.specs.Bytes.{Tables}
@@ -19,19 +19,10 @@ changed image (low ∷ high ∷ b ∷ changes) = changed (set image (low + byteV
 unfoldable pub same : List ℕ → List ℕ → Bool
 same a b = eqb (agreement a b) (length a) && eqb (agreement a b) (length b)
 
--- "An image is the three tables in this order, 12,800 bytes.": where each table stands in it, and its size
-abbrev pub poolPlace : ℕ
-poolPlace = queuesSize
-
-abbrev pub tasksPlace : ℕ
-tasksPlace = poolPlace + poolSize
-
-abbrev pub imageSize : ℕ
-imageSize = tasksPlace + tasksSize
-
+-- "An image is the three tables in this order, 12,800 bytes."
 unfoldable pub tablesIn : (image : List ℕ) → Tables
 tablesIn image =
-    record { queues = slice 0 queuesSize image; pool = slice poolPlace poolSize image; tasks = slice tasksPlace tasksSize image }
+    record { queues = slice queuesPlace queuesSize image; pool = slice poolPlace poolSize image; tasks = slice tasksPlace tasksSize image }
 
 unfoldable pub sameTables : Tables → Tables → Bool
 sameTables t u = same (t .queues) (u .queues) && same (t .pool) (u .pool) && same (t .tasks) (u .tasks)

@@ -5,18 +5,20 @@ ghost use lib.ListN.{length, take, set};
 ghost use Rattle.bytes.specs.LittleEndian.{byteValues};
 ghost use Rattle.ranks.specs.Table.{byte};
 ghost use Rattle.records.specs.Bytes.{tables};
+ghost use Rattle.records.specs.Layout.{imageSize};
 ghost use Rattle.calllog.specs.CallLog.{answerWidth, recordCount};
-ghost use Rattle.replay_cases.specs.StoredCase.{imageSize, answersRoom, changed, same, tablesIn, sameTables, replaysTo, caseHolds};
-use crate::image::IMAGE_SIZE;
-use crate::image::POOL_PLACE;
-use crate::image::TASKS_PLACE;
+ghost use Rattle.replay_cases.specs.StoredCase.{answersRoom, changed, same, tablesIn, sameTables, replaysTo, caseHolds};
 use bytes::copy::copy_into;
 use bytes::numbers::BYTE_VALUES;
 use bytes::numbers::wide;
 use calllog::layout::ANSWER_WIDTH;
 use logio::agreeing::agreeing;
+use records::layout::IMAGE_SIZE;
+use records::layout::POOL_PLACE;
 use records::layout::POOL_SIZE;
+use records::layout::QUEUES_PLACE;
 use records::layout::QUEUES_SIZE;
+use records::layout::TASKS_PLACE;
 use records::layout::TASKS_SIZE;
 use runs::replay::replay_all;
 
@@ -74,7 +76,7 @@ fn queues_in(image: &[u8]) -> [u8; QUEUES_SIZE]
     ensures { λ r. ⌜ r ≡ tablesIn (now (image .entry)) .queues ⌝ }
 {
     let mut queues = [0u8; QUEUES_SIZE];
-    copy_into(&mut queues, 0, &image[0..POOL_PLACE]);
+    copy_into(&mut queues, 0, &image[QUEUES_PLACE..POOL_PLACE]);
     queues
 }
 
@@ -101,7 +103,7 @@ fn are_tables_in(queues: &[u8], pool: &[u8], tasks: &[u8], image: &[u8]) -> bool
     requires { ⌜ length (now image) ≡ imageSize ⌝ }
     ensures { λ r. ⌜ r ≡ sameTables (tables (now (queues .entry)) (now (pool .entry)) (now (tasks .entry))) (tablesIn (now (image .entry))) ⌝ }
 {
-    is_same(queues, &image[0..POOL_PLACE])
+    is_same(queues, &image[QUEUES_PLACE..POOL_PLACE])
         & is_same(pool, &image[POOL_PLACE..TASKS_PLACE])
         & is_same(tasks, &image[TASKS_PLACE..IMAGE_SIZE])
 }

@@ -17,17 +17,14 @@
 // The answers and tables come from an independent program, written from documents 01 and 02 and sharing nothing with this code; the answers
 // of worked_example are the 16 bytes that document 01 prints.
 mod case; // case.rt: a case, run on the code
-mod image; // image.rt: where each table stands in an image
 
 ghost use mathlib.Core.Path.{_≡_};
 ghost use Prim.Native.Nat.{_+_, _<_, _≤_};
 ghost use lib.ListN.{length};
-ghost use Rattle.replay_cases.specs.StoredCase.{imageSize, restRoom};
+ghost use Rattle.records.specs.Layout.{imageSize};
+ghost use Rattle.replay_cases.specs.StoredCase.{restRoom};
 use crate::case::REST_ROOM;
 use crate::case::case_holds;
-use crate::image::IMAGE_SIZE;
-use crate::image::POOL_PLACE;
-use crate::image::TASKS_PLACE;
 use bytes::copy::copy_into;
 use bytes::numbers::read_u16;
 use calllog::layout::ANSWER_WIDTH;
@@ -38,8 +35,11 @@ use logio::agreeing::fronts_agreeing;
 use logio::block::ANSWERS;
 use logio::block::BLOCK;
 use logio::block::replay_block;
+use records::layout::IMAGE_SIZE;
+use records::layout::POOL_PLACE;
 use records::layout::POOL_SIZE;
 use records::layout::QUEUES_SIZE;
+use records::layout::TASKS_PLACE;
 use records::layout::TASKS_SIZE;
 use std::num::wrapping_add_u64;
 use streams::reading::Input;

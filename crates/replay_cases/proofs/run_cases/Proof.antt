@@ -1,5 +1,5 @@
 -- `replay_cases::run_cases` meets its contract. Assumes nothing.
-use Rattle.replay_cases.specs.StoredCase.{imageSize}
+use Rattle.records.specs.Layout.{imageSize}
 use borrow.Author.Needs.{needs}
 use mathlib.Core.Path.{_≡_}
 use lib.ListN.{length}

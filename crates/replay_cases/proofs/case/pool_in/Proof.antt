@@ -1,10 +1,10 @@
 -- `replay_cases::case::pool_in` meets its contract. Assumes nothing.
 use native.Mathlib.Omega.{arith}
 use mathlib.Core.Path.{_∙_}
-use Rattle.records.specs.Layout.{poolSize}
+use Rattle.records.specs.Layout.{poolSize, poolPlace}
 use borrow.Author.Needs.{needs}
 use Rattle.ranks.specs.Table.{slice}
-use Rattle.replay_cases.specs.StoredCase.{tablesIn, poolPlace}
+use Rattle.replay_cases.specs.StoredCase.{tablesIn}
 use Rattle.replay_cases.proofs.Laws.{copied, part-length}
 use Rattle.replay_cases.proofs.case.pool_in.Statement.{statement}
 use Rattle.replay_cases.proofs.case.pool_in.Tie as tie

@@ -1,10 +1,10 @@
 -- `replay_cases::case::tasks_in` meets its contract. Assumes nothing.
 use native.Mathlib.Omega.{arith}
 use mathlib.Core.Path.{_∙_}
-use Rattle.records.specs.Layout.{tasksSize}
+use Rattle.records.specs.Layout.{tasksSize, tasksPlace}
 use borrow.Author.Needs.{needs}
 use Rattle.ranks.specs.Table.{slice}
-use Rattle.replay_cases.specs.StoredCase.{tablesIn, tasksPlace}
+use Rattle.replay_cases.specs.StoredCase.{tablesIn}
 use Rattle.replay_cases.proofs.Laws.{copied, part-length}
 use Rattle.replay_cases.proofs.case.tasks_in.Statement.{statement}
 use Rattle.replay_cases.proofs.case.tasks_in.Tie as tie

@@ -4,7 +4,8 @@ use Prim.Native.Nat.{ℕ}
 use mathlib.Core.List.{List}
 use mathlib.Core.Path.{ap, _∙_}
 use borrow.Author.Needs.{needs}
-use Rattle.replay_cases.specs.StoredCase.{changed, imageSize}
+use Rattle.records.specs.Layout.{imageSize}
+use Rattle.replay_cases.specs.StoredCase.{changed}
 use Rattle.replay_cases.proofs.Laws.{copied}
 use Rattle.replay_cases.proofs.case.with_changes.Statement.{statement}
 use Rattle.replay_cases.proofs.case.with_changes.Tie as tie

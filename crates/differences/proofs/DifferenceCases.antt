@@ -1,0 +1,25 @@
+-- The differences that are written out hold, by computation. Assumes nothing.
+use mathlib.Core.Path.{refl}
+use Rattle.ranks.specs.Lists.{countTrue, firstTrue, keepIf, numbersFrom}
+use Rattle.differences.specs.Differences.{differAt, recordDifference, tableRecords, imageRecords}
+use Rattle.differences.specs.DifferenceCases.{changedAt, DifferencesHold}
+
+pub differences-hold : DifferencesHold
+unfolding countTrue firstTrue keepIf numbersFrom differAt recordDifference tableRecords imageRecords changedAt
+differences-hold =
+    record {
+      one-byte = refl;
+      three-bytes = refl;
+      with-a-gap = refl;
+      every-byte = refl;
+      equal = refl;
+      size = refl;
+      count = refl;
+      count-112 = refl;
+      first-queue = refl;
+      last-queue = refl;
+      first-buffer = refl;
+      last-buffer = refl;
+      first-task = refl;
+      last-task = refl;
+    }

@@ -1,0 +1,112 @@
+-- Laws of storing the entries one after the other, which the walk of `compare` cites. Assumes nothing.
+use Prim.Native.Nat.{ℕ, suc, _+_, _-_, _<_}
+use native.Mathlib.Omega.{arith}
+use native.Mathlib.Numerals.{add-one}
+use native.Mathlib.Nat.{zero-add}
+use mathlib.Core.Path.{_≡_, refl, sym, ap, _∙_}
+use mathlib.Core.Bool.{Bool, true, false}
+use mathlib.Core.Logic.{inl, inr}
+use mathlib.Core.List.{List, [], _∷_, _++_}
+use lib.ListN.{length, getD, drop, set, length-drop}
+use lib.Seq.{drop-cons, take-length, paste, paste-zero, paste-suc, length-paste}
+use Rattle.ranks.specs.Lists.{if_then_else_}
+use Rattle.ranks.proofs.Tests.{either}
+use Rattle.records.specs.Layout.{imageSize, imageRecordCount}
+use Rattle.differences.specs.Differences.{filledWith, refusedShape, comparable, compared}
+use Rattle.differences.specs.Comparisons.{differencesFrom, blank, entries, statusOf, answerWith, unstored, Reached, Sought}
+use Rattle.differences.specs.declared.difference.Difference.{Difference}
+use Rattle.differences.specs.declared.comparison.Comparison.{Comparison}
+use Rattle.differences.proofs.Entries.{all-records, fits, sizes, successful}
+
+-- ---- Where a comparison begins
+
+module _ (one two : List ℕ) (room : ℕ) (c : Comparison) where
+  pub begins : comparable one two room ≡ true → Sought one two 0 0 c → (c .at ≡ 0) × Reached one two room c
+  unfolding Reached Sought entries statusOf unstored
+  begins g (rest, (at, answer)) = (at, rw (g, at) (rest ∙ sym (all-records one two), (omega arith, answer)))
+
+  pub refused : comparable one two room ≡ false → c .more ≡ false → c .at ≡ 0 → c .answer ≡ answerWith 16 0 → (c .at ≡ 0) × Reached one two room c
+  unfolding Reached entries statusOf unstored
+  refused g none at answer = (at, rw (g, at, none) (refl, (omega arith, answer)))
+
+-- ---- What is stored
+
+module _ (one two : List ℕ) (zs : List Difference) where
+  abbrev all : List Difference
+  all = entries one two (length zs)
+
+  -- the first entries are stored in the list `ys`, which was `zs`; its others are as they were
+  abbrev pub Stored : Comparison → List Difference → Type 0
+  Stored c ys = Reached one two (length zs) c × (ys ≡ paste zs 0 all (c .at))
+
+  -- what `advance` promises
+  abbrev pub Next : Comparison → Comparison → Type 0
+  Next c c′ = Sought one two (c .at + 1) (c .next) c′
+
+  pub starts : (c : Comparison) → c .at ≡ 0 → Reached one two (length zs) c → Stored c zs
+  starts c a r = (r, paste-zero zs 0 all ∙ ap (paste zs 0 all) (sym a))
+
+  abbrev choose : Comparison → Bool → List Difference
+  choose c b = if b then c .entry ∷ differencesFrom one two (c .next) else []
+
+  left-more : (c : Comparison) → c .more ≡ true → unstored one two c ≡ c .entry ∷ differencesFrom one two (c .next)
+  unfolding unstored
+  left-more c m = ap (choose c) m
+
+  left-none : (c : Comparison) → c .more ≡ false → unstored one two c ≡ []
+  unfolding unstored
+  left-none c m = ap (choose c) m
+
+  before-end : (c : Comparison) (ys : List Difference) → Stored c ys → c .more ≡ true → c .at < length all
+  unfolding Reached
+  before-end c ys p m =
+      let e : suc (length (differencesFrom one two (c .next))) ≡ length all - c .at = ap length (sym (left-more c m) ∙ p .0 .0) ∙ length-drop (c .at) all in
+      omega (arith, e)
+
+  pub same-length : (c : Comparison) (ys : List Difference) → Stored c ys → length ys ≡ length zs
+  unfolding Reached
+  same-length c ys p = ap length (p .1) ∙ length-paste zs 0 all (c .at) (omega (arith, p .0 .1 .0, fits one two (length zs))) (p .0 .1 .0)
+
+  -- an entry is left: it has its place, and the images have their length
+  pub going : (c : Comparison) (ys : List Difference) → Stored c ys → c .more ≡ true
+      → (c .at < length zs) × ((length one ≡ imageSize) × ((length two ≡ imageSize) × (c .at < imageRecordCount)))
+  going c ys p m =
+      let h = before-end c ys p m in
+      let g = sizes one two (length zs) (omega (arith, h)) in
+      (omega (arith, h, fits one two (length zs)), (g .0, (g .1 .0, omega (arith, h, g .1 .1))))
+
+  -- fewer entries are left
+  pub nearer : (c c′ : Comparison) (ys : List Difference) → Stored c ys → c .more ≡ true → Next c c′ → length all - c′ .at < length all - c .at
+  unfolding Sought
+  nearer c c′ ys p m n = omega (arith, n .1 .0, before-end c ys p m)
+
+  pub turned : (c c′ : Comparison) (ys : List Difference) → Stored c ys → c .more ≡ true → Next c c′ → Stored c′ (set ys (c .at) (c .entry))
+  unfolding Reached Sought
+  turned c c′ ys p m n =
+      let h = before-end c ys p m in
+      let parts : c .entry ∷ differencesFrom one two (c .next) ≡ getD all (c .at) blank ∷ drop (suc (c .at)) all = sym (left-more c m) ∙ p .0 .0 ∙ drop-cons all (c .at) blank h in
+      let at′ : c′ .at ≡ suc (c .at) = n .1 .0 ∙ add-one (c .at) in (
+        (
+          n .0 ∙ ap (drop 1) parts ∙ ap (λ (k : ℕ). drop k all) (sym at′),
+          (omega (arith, h, at′), rw (successful one two (length zs) (omega (arith, h)), n .1 .0) (n .1 .1)),
+        ),
+        ap (λ (l : List Difference). set l (c .at) (c .entry)) (p .1)
+            ∙ ap (λ (l : List Difference). set (paste zs 0 all (c .at)) (c .at) (getD l 0 blank)) parts
+            ∙ ap (λ (k : ℕ). set (paste zs 0 all (c .at)) k (getD all (c .at) blank)) (sym (zero-add (c .at)))
+            ∙ paste-suc zs 0 all (c .at) blank (omega (arith, h, fits one two (length zs))) h
+            ∙ ap (paste zs 0 all) (sym at′),
+      )
+
+  -- all is stored
+  whole : record { answer = answerWith (statusOf one two (length zs)) (length all); list = all ++ drop (length all) zs } ≡ compared one two zs
+  unfolding entries statusOf compared filledWith refusedShape
+  whole = elim (either (comparable one two (length zs))) [ inl g ↦ rw g | inr g ↦ rw g ]
+
+  pub ended : (c : Comparison) (ys : List Difference) → Stored c ys → c .more ≡ false → record { answer = c .answer; list = ys } ≡ compared one two zs
+  unfolding Reached
+  ended c ys p m =
+      let e : 0 ≡ length all - c .at = ap length (sym (left-none c m) ∙ p .0 .0) ∙ length-drop (c .at) all in
+      let q : c .at ≡ length all = omega (arith, e, p .0 .1 .0) in
+      let answer : c .answer ≡ answerWith (statusOf one two (length zs)) (length all) = p .0 .1 .1 ∙ ap (answerWith (statusOf one two (length zs))) q in
+      let list : ys ≡ all ++ drop (length all) zs = p .1 ∙ ap (paste zs 0 all) q ∙ rw (take-length all, zero-add (length all)) in
+      rw (answer, list) whole

@@ -1,0 +1,90 @@
+// How far a comparison of two images has come.
+ghost use mathlib.Core.Path.{_≡_};
+ghost use mathlib.Core.Bool.{false};
+ghost use Prim.Native.Nat.{_+_, _<_, _≤_};
+ghost use lib.ListN.{length};
+ghost use Rattle.records.specs.Layout.{imageSize, imageRecordCount};
+ghost use Rattle.differences.specs.Comparisons.{answerWith, Reached, Sought};
+use crate::answer::Answer;
+use crate::difference::Difference;
+use crate::difference::difference_at;
+use records::layout::IMAGE_RECORD_COUNT;
+use records::layout::IMAGE_SIZE;
+use records::status::BAD_SHAPE;
+use records::status::SUCCESSFUL;
+
+// Whether there is an entry to store, the entry, its place in the list, the record of the images to go on with, and the answer so far.
+pub struct Comparison {
+    pub more: bool,
+    pub entry: Difference,
+    pub at: usize,
+    pub next: usize,
+    pub answer: Answer,
+}
+
+// No entry is left: the comparison has come to this answer.
+fn ended(status: u8, at: usize) -> Comparison
+    requires { ⌜ at ≤ imageRecordCount ⌝ }
+    ensures { λ r. ⌜ (r .more ≡ false) × ((r .at ≡ at) × (r .answer ≡ answerWith status at)) ⌝ }
+{
+    Comparison {
+        more: false,
+        entry: Difference {
+            table: 0,
+            number: 0,
+            place: 0,
+            count: 0,
+        },
+        at,
+        next: IMAGE_RECORD_COUNT,
+        answer: Answer {
+            status: status as u32,
+            value: at as u32,
+            woken: 0,
+        },
+    }
+}
+
+// The first record from record k on that differs; so many entries are stored.
+fn seek(one: &[u8], two: &[u8], at: usize, k: usize) -> Comparison
+    requires { ⌜ (length (now one) ≡ imageSize) × ((length (now two) ≡ imageSize) × (at ≤ imageRecordCount)) ⌝ }
+    ensures { λ r. ⌜ Sought (now (one .entry)) (now (two .entry)) at k r ⌝ }
+{
+    let mut k = k;
+    while k < IMAGE_RECORD_COUNT {
+        let entry = difference_at(one, two, k);
+        k += 1;
+        if 0 < entry.count {
+            return Comparison {
+                more: true,
+                entry,
+                at,
+                next: k,
+                answer: Answer {
+                    status: SUCCESSFUL as u32,
+                    value: at as u32,
+                    woken: 0,
+                },
+            };
+        }
+    }
+    ended(SUCCESSFUL, at)
+}
+
+// Where a comparison begins: refused, or at the first record that differs.
+pub fn begin(one: &[u8], two: &[u8], room: usize) -> Comparison
+    ensures { λ r. ⌜ (r .at ≡ 0) × Reached (now (one .entry)) (now (two .entry)) room r ⌝ }
+{
+    if (one.len() == IMAGE_SIZE) & (two.len() == IMAGE_SIZE) & (IMAGE_RECORD_COUNT <= room) {
+        return seek(one, two, 0, 0);
+    }
+    ended(BAD_SHAPE, 0)
+}
+
+// The entry is stored: on to the next.
+pub fn advance(one: &[u8], two: &[u8], c: Comparison) -> Comparison
+    requires { ⌜ (length (now one) ≡ imageSize) × ((length (now two) ≡ imageSize) × (c .at < imageRecordCount)) ⌝ }
+    ensures { λ r. ⌜ Sought (now (one .entry)) (now (two .entry)) (c .at + 1) (c .next) r ⌝ }
+{
+    seek(one, two, c.at + 1, c.next)
+}

@@ -1,0 +1,7 @@
+// What differs between two images of the tables.
+pub mod answer; // answer.rt: an answer as numbers
+mod comparison; // comparison.rt: how far a comparison has come
+pub mod compare; // compare.rt: the lent list filled
+pub mod difference; // difference.rt: one record's difference
+mod image; // image.rt: the records of an image
+pub mod listed; // listed.rt: the list by value

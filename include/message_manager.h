@@ -21,7 +21,8 @@
  *
  * WHAT THE HOST OWES
  *
- * A buffer is lent as a pointer and its length in bytes. The library cannot test the following, so the host sees to it:
+ * A buffer is lent as a pointer and its length in bytes, a list as a pointer and its length in entries. The library
+ * cannot test the following, so the host sees to it:
  *
  *   - No pointer is NULL, even where the length is 0, as for an empty message, and all the bytes lent are there.
  *   - The buffers of a call do not overlap, but for two that are both const. What is lent as const is not written.
@@ -45,7 +46,7 @@
  *
  * Every status but SUCCESSFUL and WAITING is a refusal: no byte of the tables has changed, value and mask are 0. Below,
  * statuses are named without MESSAGE_QUEUE_, each function's in the order in which it tests them. Numbers are 32 bits
- * wide, and none is cut. Every call begins with the common tests:
+ * wide, and none is cut. A function that is lent an answer buffer begins with the common tests:
  *
  *   BAD_SHAPE   the answer buffer has another length than 16 (then not even the answer is written), or a table is
  *               shorter or longer than it must be
@@ -330,17 +331,24 @@ uint32_t message_manager_replay(
     const uint8_t *log, size_t log_size,
     uint8_t *answers, size_t answers_size);
 
-/* An answer by value. */
-struct message_manager_answer {
+/* What a function without an answer buffer hands back, where it has a value: not the answer record above. */
+struct message_manager_result {
     uint32_t status;
-    uint32_t value;
-    uint32_t woken;
+    uint32_t value; /* 0 unless the function names one */
+    uint32_t woken; /* woken mask: 0 */
+};
+
+/* The tables of an image, by their numbers. */
+enum message_manager_table {
+    MESSAGE_MANAGER_QUEUES = 0,
+    MESSAGE_MANAGER_POOL = 1,
+    MESSAGE_MANAGER_TASKS = 2
 };
 
 /* A record in which two images differ. */
 struct message_manager_difference {
-    uint8_t table;  /* 0 queues, 1 pool, 2 tasks */
-    uint8_t record; /* its number in the table */
+    uint8_t table;  /* enum message_manager_table */
+    uint8_t number; /* of the record in its table */
     uint8_t place;  /* the first byte in it that differs */
     uint8_t count;  /* how many bytes in it differ */
 };
@@ -349,14 +357,14 @@ struct message_manager_difference {
  * Lists the records in which two images differ: queues, then pool, then tasks, each table from its first record on. An
  * image is the three tables one behind the other; it need not be sound.
  *
- *   list, room  room for 112 entries or more, counted in entries. Those past the value stay as they were.
+ *   list, room  room for MESSAGE_MANAGER_IMAGE_RECORD_COUNT entries or more. Those past the value stay as they were.
  *
- * Value: how many records differ. Wakes nobody. Status:
- *   BAD_SHAPE   an image is shorter or longer than it must be, or there is room for fewer than 112 entries, however
- *               many records differ: no entry has been written
+ * Value: how many records differ. Status:
+ *   BAD_SHAPE   an image has another size than MESSAGE_MANAGER_IMAGE_SIZE, or the list has less room, however many
+ *               records differ: no entry has been written
  *   SUCCESSFUL
  */
-struct message_manager_answer message_manager_compare(
+struct message_manager_result message_manager_compare(
     const uint8_t *one, size_t one_size, const uint8_t *two, size_t two_size,
     struct message_manager_difference *list, size_t room);
 

@@ -71,19 +71,25 @@ static void show_answer(void)
             show_received(task);
 }
 
+static const char *table_name(uint8_t table)
+{
+    return table == MESSAGE_MANAGER_QUEUES ? "queue" : table == MESSAGE_MANAGER_POOL ? "buffer" : "task";
+}
+
 /* What has changed in the tables since before: a line for each record. */
 static void show_changes(const struct tables *before)
 {
-    static const char *const names[] = { "queue", "buffer", "task" };
     static struct message_manager_difference list[MESSAGE_MANAGER_IMAGE_RECORD_COUNT];
-    const struct message_manager_answer compared = message_manager_compare(
+    const struct message_manager_result compared = message_manager_compare(
         (const uint8_t *)before, sizeof *before, (const uint8_t *)&tables, sizeof tables,
         list, MESSAGE_MANAGER_IMAGE_RECORD_COUNT);
     uint32_t i;
     for (i = 0; i < compared.value; i++)
-        printf("    %s %u: first change at byte %u, bytes changed: %u\n", names[list[i].table], list[i].record, list[i].place,
-               list[i].count);
-    if (compared.status == MESSAGE_QUEUE_SUCCESSFUL && compared.value == 0)
+        printf("    %s %u: first change at byte %u, bytes changed: %u\n", table_name(list[i].table), list[i].number,
+               list[i].place, list[i].count);
+    if (compared.status != MESSAGE_QUEUE_SUCCESSFUL)
+        printf("    not compared: %s\n", status_name(compared.status));
+    else if (compared.value == 0)
         printf("    no table byte changed\n");
 }
 

@@ -11,6 +11,8 @@ mod message_manager {
     pub const TASK_COUNT: usize = 32;
     pub const TASK_RECORD_SIZE: usize = 136;
     pub const IMAGE_RECORD_COUNT: usize = 112;
+    pub const QUEUES: u8 = 0;
+    pub const POOL: u8 = 1;
     const ANSWER_SIZE: usize = 16;
 
     pub const OPEN: u32 = 2;
@@ -35,7 +37,7 @@ mod message_manager {
     #[derive(Clone, Copy, Default)]
     pub struct Difference {
         pub table: u8,
-        pub record: u8,
+        pub number: u8,
         pub place: u8,
         pub count: u8,
     }
@@ -291,10 +293,16 @@ impl Host {
         let mut list = [Difference::default(); IMAGE_RECORD_COUNT];
         let compared = compare(before, &self.image(), &mut list);
         for d in &list[..compared.value as usize] {
-            let name = ["queue", "buffer", "task"][usize::from(d.table)];
-            println!("    {name} {}: first change at byte {}, bytes changed: {}", d.record, d.place, d.count);
+            let name = match d.table {
+                QUEUES => "queue",
+                POOL => "buffer",
+                _ => "task",
+            };
+            println!("    {name} {}: first change at byte {}, bytes changed: {}", d.number, d.place, d.count);
         }
-        if compared.status == SUCCESSFUL && compared.value == 0 {
+        if compared.status != SUCCESSFUL {
+            println!("    not compared: {}", status_name(compared.status));
+        } else if compared.value == 0 {
             println!("    no table byte changed");
         }
     }

@@ -1,7 +1,7 @@
 /*
  * For tools/compare_images: prints what message_manager_compare says of the images in two files, as image_compare does. The list that is
  * lent is longer than it need be, and full of a byte that must stay in every entry past the value, and in all of them after a refusal. With
- * room for fewer than 112 entries, none and 111, the answer must be 16 too.
+ * room for fewer entries than an image has records, none and one less, the answer must be 16 too.
  */
 #include "message_manager.h"
 
@@ -39,7 +39,7 @@ static void expect_untouched(size_t first)
         }
 }
 
-static struct message_manager_answer compare(
+static struct message_manager_result compare(
     const uint8_t *one, size_t one_size, const uint8_t *two, size_t two_size, size_t room)
 {
     memset(list, UNTOUCHED, sizeof list);
@@ -48,7 +48,7 @@ static struct message_manager_answer compare(
 
 static void expect_refused(const uint8_t *one, size_t one_size, const uint8_t *two, size_t two_size, size_t room)
 {
-    const struct message_manager_answer answer = compare(one, one_size, two, two_size, room);
+    const struct message_manager_result answer = compare(one, one_size, two, two_size, room);
     if (answer.status != MESSAGE_QUEUE_BAD_SHAPE || answer.value != 0 || answer.woken != 0)
         printf("room %zu: %u %u %u\n", room, answer.status, answer.value, answer.woken);
     expect_untouched(0);
@@ -59,7 +59,7 @@ int main(int argc, char **argv)
     static uint8_t one[2 * MESSAGE_MANAGER_IMAGE_SIZE], two[2 * MESSAGE_MANAGER_IMAGE_SIZE];
     static uint8_t one_before[sizeof one], two_before[sizeof two];
     size_t one_size, two_size;
-    struct message_manager_answer answer;
+    struct message_manager_result answer;
     uint32_t i;
     if (argc != 3)
         return 1;
@@ -75,7 +75,7 @@ int main(int argc, char **argv)
     if (answer.woken != 0)
         printf("woken %u\n", answer.woken);
     for (i = 0; i < answer.value; i++)
-        printf("%u %u %u %u\n", list[i].table, list[i].record, list[i].place, list[i].count);
+        printf("%u %u %u %u\n", list[i].table, list[i].number, list[i].place, list[i].count);
     expect_untouched(answer.value);
     if (memcmp(one, one_before, sizeof one) != 0 || memcmp(two, two_before, sizeof two) != 0)
         printf("an image has changed\n");

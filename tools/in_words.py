@@ -2,14 +2,13 @@
 import struct
 from collections import namedtuple
 
-RECORD, ANSWER, QUEUES, POOL, IMAGE = 136, 16, 256, 8192, 12800
+RECORD, ANSWER = 136, 16  # sizes of a call record and of an answer record
 
 STATUS = [
     "SUCCESSFUL", "INVALID_NAME", "INVALID_ID", "INVALID_SIZE", "INVALID_NUMBER", "TOO_MANY", "UNSATISFIED", "TIMEOUT",
     "OBJECT_WAS_DELETED", "INVALID_NODE", "CORRUPT", "BAD_CALLER", "ILLEGAL_ON_REMOTE_OBJECT", "NO_BUFFER", "WAITING",
     "INVALID_OPTION", "BAD_SHAPE",
 ]
-RECORD_NAMES = "queue", "buffer", "task"  # by the number of the table
 OPERATIONS = dict(enumerate("create ident delete send urgent broadcast receive pending flush tick".split(), 1))
 
 
@@ -33,6 +32,11 @@ REPLY = Layout("2B 2s 2I 4s", "status first_byte zeros value mask last_zeros")
 QUEUE = Layout("4B H 2B I 4s", "live attributes limit max_size generation pending waiters name zeros")
 BUFFER = Layout("3B 5s 120s", "owner rank length zeros data")
 TASK = Layout("6B 2s I 4s 120s", "state queue rank priority status length zeros ticks last_zeros data")
+
+# the tables of an image in order: how many records, their fields, and what one is called
+TABLES = [(16, QUEUE, "queue"), (64, BUFFER, "buffer"), (32, TASK, "task")]
+QUEUES, POOL, TASKS = (count * layout.form.size for count, layout, _ in TABLES)  # their sizes
+IMAGE = QUEUES + POOL + TASKS
 
 
 def status_name(status):
@@ -77,7 +81,7 @@ def answer_in_words(answer):
 def image_records():
     """The records of an image in order: table (0 queues, 1 pool, 2 tasks), number in it, where it starts, how many bytes it has."""
     start = 0
-    for table, (count, layout) in enumerate([(16, QUEUE), (64, BUFFER), (32, TASK)]):
+    for table, (count, layout, _) in enumerate(TABLES):
         for number in range(count):
             yield table, number, start, layout.form.size
             start += layout.form.size
@@ -85,5 +89,7 @@ def image_records():
 
 def place_in_words(place):
     """The record and the byte in it that a byte of an image is."""
-    table, number, start, _ = [record for record in image_records() if record[2] <= place][-1]
-    return f"{RECORD_NAMES[table]} {number}, byte {place - start}"
+    for table, number, start, width in image_records():
+        if place < start + width:
+            return f"{TABLES[table][2]} {number}, byte {place - start}"
+    return "the end of an image"

@@ -1,11 +1,11 @@
 -- The differences that are written out hold, by computation. Assumes nothing.
 use mathlib.Core.Path.{refl}
 use Rattle.ranks.specs.Lists.{countTrue, firstTrue, keepIf, numbersFrom}
-use Rattle.differences.specs.Differences.{differAt, recordDifference, tableRecords, imageRecords}
+use Rattle.differences.specs.Differences.{differAt, recordDifference, tableRecords, imageRecords, filled}
 use Rattle.differences.specs.DifferenceCases.{changedAt, DifferencesHold}
 
 pub differences-hold : DifferencesHold
-unfolding countTrue firstTrue keepIf numbersFrom differAt recordDifference tableRecords imageRecords changedAt
+unfolding countTrue firstTrue keepIf numbersFrom differAt recordDifference tableRecords imageRecords filled changedAt
 differences-hold =
     record {
       one-byte = refl;
@@ -22,4 +22,6 @@ differences-hold =
       last-buffer = refl;
       first-task = refl;
       last-task = refl;
+      past-the-value = refl;
+      none-differs = refl;
     }

@@ -11,8 +11,10 @@ use borrow.Author.Tests.{lt-ltb, le-ltb, eqb-true, leb-true}
 use Rattle.ranks.specs.Lists.{keepIf, numbersFrom}
 use Rattle.ranks.proofs.Tests.{both, either}
 use Rattle.records.specs.Layout.{imageSize, imageRecordCount}
-use Rattle.differences.specs.Differences.{tableRecords, imageRecords, differenceIn, differs, differences, comparable}
-use Rattle.differences.specs.Comparisons.{imageRecordAt, differenceAt, differencesFrom, entries, statusOf}
+use Rattle.records.specs.Status.{SUCCESSFUL}
+use Rattle.specification.specs.Answer.{firstStatus}
+use Rattle.differences.specs.Differences.{tableRecords, imageRecords, differenceIn, differs, differences, comparable, refusals}
+use Rattle.differences.specs.Comparisons.{imageRecordAt, differenceAt, differencesFrom, entriesFor, statusFor}
 use Rattle.differences.specs.declared.difference.Difference.{Difference}
 
 -- ---- From a record on
@@ -74,23 +76,23 @@ module _ (one two : List ℕ) (room : ℕ) where
       (eqb-true (length one) imageSize p, (eqb-true (length two) imageSize q, leb-true imageRecordCount room room-enough))
 
   -- the comparison is refused, or there is room
-  pub fits : length (entries one two room) ≤ room
-  unfolding entries
+  pub fits : length (entriesFor one two room) ≤ room
+  unfolding entriesFor
   fits = elim (either (comparable one two room)) [ inl g ↦ rw g (omega (arith, shapes g .1 .1, few one two)) | inr g ↦ rw g (omega arith) ]
 
   -- where there is an entry, the comparison is not refused
-  accepted : 0 < length (entries one two room) → comparable one two room ≡ true
-  unfolding entries
+  accepted : 0 < length (entriesFor one two room) → comparable one two room ≡ true
+  unfolding entriesFor
   accepted h = elim (either (comparable one two room)) [ inl g ↦ g | inr g ↦ absurd (none g) ]
     where
       none : comparable one two room ≡ false → ⊥
-      none g = let e : length (entries one two room) ≡ 0 = rw g in omega (arith, e, h)
+      none g = let e : length (entriesFor one two room) ≡ 0 = rw g in omega (arith, e, h)
 
-  pub sizes : 0 < length (entries one two room)
-      → (length one ≡ imageSize) × ((length two ≡ imageSize) × (length (entries one two room) ≤ imageRecordCount))
-  unfolding entries
+  pub sizes : 0 < length (entriesFor one two room)
+      → (length one ≡ imageSize) × ((length two ≡ imageSize) × (length (entriesFor one two room) ≤ imageRecordCount))
+  unfolding entriesFor
   sizes h = let g = accepted h in (shapes g .0, (shapes g .1 .0, rw g (few one two)))
 
-  pub successful : 0 < length (entries one two room) → statusOf one two room ≡ 0
-  unfolding statusOf
+  pub successful : 0 < length (entriesFor one two room) → statusFor one two room ≡ SUCCESSFUL
+  unfolding statusFor refusals firstStatus
   successful h = rw (accepted h)

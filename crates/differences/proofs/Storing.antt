@@ -12,8 +12,10 @@ use lib.Seq.{drop-cons, take-length, paste, paste-zero, paste-suc, length-paste}
 use Rattle.ranks.specs.Lists.{if_then_else_}
 use Rattle.ranks.proofs.Tests.{either}
 use Rattle.records.specs.Layout.{imageSize, imageRecordCount}
-use Rattle.differences.specs.Differences.{filledWith, refusedShape, comparable, compared}
-use Rattle.differences.specs.Comparisons.{differencesFrom, blank, entries, statusOf, answerWith, unstored, Reached, Sought}
+use Rattle.records.specs.Status.{BAD-SHAPE}
+use Rattle.specification.specs.Answer.{firstStatus, refuseIfAny}
+use Rattle.differences.specs.Differences.{comparable, refusals, filled, compared, listOutcome}
+use Rattle.differences.specs.Comparisons.{differencesFrom, blank, entriesFor, statusFor, answerWith, unstored, Reached, Sought}
 use Rattle.differences.specs.declared.difference.Difference.{Difference}
 use Rattle.differences.specs.declared.comparison.Comparison.{Comparison}
 use Rattle.differences.proofs.Entries.{all-records, fits, sizes, successful}
@@ -22,18 +24,18 @@ use Rattle.differences.proofs.Entries.{all-records, fits, sizes, succes
 
 module _ (one two : List ℕ) (room : ℕ) (c : Comparison) where
   pub begins : comparable one two room ≡ true → Sought one two 0 0 c → (c .at ≡ 0) × Reached one two room c
-  unfolding Reached Sought entries statusOf unstored
+  unfolding Reached Sought entriesFor statusFor refusals firstStatus unstored
   begins g (rest, (at, answer)) = (at, rw (g, at) (rest ∙ sym (all-records one two), (omega arith, answer)))
 
-  pub refused : comparable one two room ≡ false → c .more ≡ false → c .at ≡ 0 → c .answer ≡ answerWith 16 0 → (c .at ≡ 0) × Reached one two room c
-  unfolding Reached entries statusOf unstored
+  pub refused : comparable one two room ≡ false → c .more ≡ false → c .at ≡ 0 → c .answer ≡ answerWith BAD-SHAPE 0 → (c .at ≡ 0) × Reached one two room c
+  unfolding Reached entriesFor statusFor refusals firstStatus unstored
   refused g none at answer = (at, rw (g, at, none) (refl, (omega arith, answer)))
 
 -- ---- What is stored
 
 module _ (one two : List ℕ) (zs : List Difference) where
   abbrev all : List Difference
-  all = entries one two (length zs)
+  all = entriesFor one two (length zs)
 
   -- the first entries are stored in the list `ys`, which was `zs`; its others are as they were
   abbrev pub Stored : Comparison → List Difference → Type 0
@@ -49,18 +51,14 @@ module _ (one two : List ℕ) (zs : List Difference) where
   abbrev choose : Comparison → Bool → List Difference
   choose c b = if b then c .entry ∷ differencesFrom one two (c .next) else []
 
-  left-more : (c : Comparison) → c .more ≡ true → unstored one two c ≡ c .entry ∷ differencesFrom one two (c .next)
+  left : (c : Comparison) (b : Bool) → c .more ≡ b → unstored one two c ≡ choose c b
   unfolding unstored
-  left-more c m = ap (choose c) m
-
-  left-none : (c : Comparison) → c .more ≡ false → unstored one two c ≡ []
-  unfolding unstored
-  left-none c m = ap (choose c) m
+  left c b m = ap (choose c) m
 
   before-end : (c : Comparison) (ys : List Difference) → Stored c ys → c .more ≡ true → c .at < length all
   unfolding Reached
   before-end c ys p m =
-      let e : suc (length (differencesFrom one two (c .next))) ≡ length all - c .at = ap length (sym (left-more c m) ∙ p .0 .0) ∙ length-drop (c .at) all in
+      let e : suc (length (differencesFrom one two (c .next))) ≡ length all - c .at = ap length (sym (left c true m) ∙ p .0 .0) ∙ length-drop (c .at) all in
       omega (arith, e)
 
   pub same-length : (c : Comparison) (ys : List Difference) → Stored c ys → length ys ≡ length zs
@@ -84,7 +82,7 @@ module _ (one two : List ℕ) (zs : List Difference) where
   unfolding Reached Sought
   turned c c′ ys p m n =
       let h = before-end c ys p m in
-      let parts : c .entry ∷ differencesFrom one two (c .next) ≡ getD all (c .at) blank ∷ drop (suc (c .at)) all = sym (left-more c m) ∙ p .0 .0 ∙ drop-cons all (c .at) blank h in
+      let parts : c .entry ∷ differencesFrom one two (c .next) ≡ getD all (c .at) blank ∷ drop (suc (c .at)) all = sym (left c true m) ∙ p .0 .0 ∙ drop-cons all (c .at) blank h in
       let at′ : c′ .at ≡ suc (c .at) = n .1 .0 ∙ add-one (c .at) in (
         (
           n .0 ∙ ap (drop 1) parts ∙ ap (λ (k : ℕ). drop k all) (sym at′),
@@ -98,15 +96,15 @@ module _ (one two : List ℕ) (zs : List Difference) where
       )
 
   -- all is stored
-  whole : record { answer = answerWith (statusOf one two (length zs)) (length all); list = all ++ drop (length all) zs } ≡ compared one two zs
-  unfolding entries statusOf compared filledWith refusedShape
+  whole : listOutcome (answerWith (statusFor one two (length zs)) (length all)) (all ++ drop (length all) zs) ≡ compared one two zs
+  unfolding entriesFor statusFor refusals firstStatus refuseIfAny compared filled
   whole = elim (either (comparable one two (length zs))) [ inl g ↦ rw g | inr g ↦ rw g ]
 
-  pub ended : (c : Comparison) (ys : List Difference) → Stored c ys → c .more ≡ false → record { answer = c .answer; list = ys } ≡ compared one two zs
+  pub ended : (c : Comparison) (ys : List Difference) → Stored c ys → c .more ≡ false → listOutcome (c .answer) ys ≡ compared one two zs
   unfolding Reached
   ended c ys p m =
-      let e : 0 ≡ length all - c .at = ap length (sym (left-none c m) ∙ p .0 .0) ∙ length-drop (c .at) all in
+      let e : 0 ≡ length all - c .at = ap length (sym (left c false m) ∙ p .0 .0) ∙ length-drop (c .at) all in
       let q : c .at ≡ length all = omega (arith, e, p .0 .1 .0) in
-      let answer : c .answer ≡ answerWith (statusOf one two (length zs)) (length all) = p .0 .1 .1 ∙ ap (answerWith (statusOf one two (length zs))) q in
+      let answer : c .answer ≡ answerWith (statusFor one two (length zs)) (length all) = p .0 .1 .1 ∙ ap (answerWith (statusFor one two (length zs))) q in
       let list : ys ≡ all ++ drop (length all) zs = p .1 ∙ ap (paste zs 0 all) q ∙ rw (take-length all, zero-add (length all)) in
       rw (answer, list) whole

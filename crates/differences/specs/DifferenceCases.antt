@@ -1,27 +1,31 @@
 -- Document 02, [2]: differences written out, and where records of an image stand.
 use Rattle.ranks.specs.Prelude.{ℕ, _≡_, List, [], _∷_, length, replicate, set, getD}
 use Rattle.records.specs.Layout.{imageSize, imageRecordCount}
-use Rattle.differences.specs.Differences.{recordDifference, imageRecords}
+use Rattle.records.specs.RecordCases.{zeros}
+use Rattle.records.specs.Status.{SUCCESSFUL}
+use Rattle.specification.specs.Answer.{outcome}
+use Rattle.differences.specs.Differences.{recordDifference, imageRecords, filled}
 use Rattle.differences.specs.declared.difference.Difference.{Difference}
 use Rattle.differences.specs.declared.image.ImageRecord.{ImageRecord}
 
-abbrev difference : (table number place count : ℕ) → Difference
+abbrev pub difference : (table number place count : ℕ) → Difference
 difference table number place count = record { table = table; number = number; place = place; count = count }
 
 abbrev standing : (table number start width : ℕ) → ImageRecord
 standing table number start width = record { table = table; number = number; start = start; width = width }
 
--- a record of zeros, and one with other bytes at some places
-abbrev zeros : ℕ → List ℕ
-zeros width = replicate width 0
-
+-- a record with other bytes at some places
 unfoldable pub changedAt : List ℕ → List ℕ → List ℕ
 changedAt [] r = r
 changedAt (p ∷ ps) r = set (changedAt ps r) p 255
 
--- record `k` of an image
-abbrev recordAt : ℕ → ImageRecord
-recordAt k = getD imageRecords k (standing 0 0 0 0)
+-- a list of entries that no comparison makes
+abbrev pub lent : (room : ℕ) → List Difference
+lent room = replicate room (difference 9 9 9 9)
+
+-- the record with number `k` in the image
+abbrev numbered : ℕ → ImageRecord
+numbered k = getD imageRecords k (standing 0 0 0 0)
 
 pub record DifferencesHold : Type 0 where
   -- "first place in it that differs, how many bytes differ"
@@ -37,9 +41,13 @@ pub record DifferencesHold : Type 0 where
   pub count : length imageRecords ≡ imageRecordCount
   pub count-112 : imageRecordCount ≡ 112
   -- the first and the last record of each table
-  pub first-queue : recordAt 0 ≡ standing 0 0 0 16
-  pub last-queue : recordAt 15 ≡ standing 0 15 240 16
-  pub first-buffer : recordAt 16 ≡ standing 1 0 256 128
-  pub last-buffer : recordAt 79 ≡ standing 1 63 8320 128
-  pub first-task : recordAt 80 ≡ standing 2 0 8448 136
-  pub last-task : recordAt 111 ≡ standing 2 31 12664 136
+  pub first-queue : numbered 0 ≡ standing 0 0 0 16
+  pub last-queue : numbered 15 ≡ standing 0 15 240 16
+  pub first-buffer : numbered 16 ≡ standing 1 0 256 128
+  pub last-buffer : numbered 79 ≡ standing 1 63 8320 128
+  pub first-task : numbered 80 ≡ standing 2 0 8448 136
+  pub last-task : numbered 111 ≡ standing 2 31 12664 136
+  -- "the answer is status 0 with their number as value, and entries past it stay as they were"
+  pub past-the-value : filled (difference 1 0 4 1 ∷ difference 2 31 135 1 ∷ []) (lent 4)
+      ≡ outcome SUCCESSFUL 2 0 (difference 1 0 4 1 ∷ difference 2 31 135 1 ∷ lent 2)
+  pub none-differs : filled [] (lent 4) ≡ outcome SUCCESSFUL 0 0 (lent 4)

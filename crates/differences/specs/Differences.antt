@@ -1,9 +1,10 @@
 -- Document 02, [2] "Image compare": what differs between two images, what a comparison answers, and what the lent list holds afterwards.
 use Rattle.ranks.specs.Prelude.{ℕ, _+_, _*_, Bool, _&&_, not, List, [], _∷_, _++_, map, length, drop, eqb, leb, ltb}
-use Rattle.ranks.specs.Lists.{if_then_else_, countTrue, firstTrue, keepIf, numbersFrom}
+use Rattle.ranks.specs.Lists.{countTrue, firstTrue, keepIf, numbersFrom}
 use Rattle.ranks.specs.Table.{slice}
 use Rattle.records.specs.Layout.{slotCount, queueWidth, bufferCount, bufferWidth, taskCount, taskWidth, queuesPlace, poolPlace, tasksPlace, imageSize, imageRecordCount}
 use Rattle.records.specs.Status.{SUCCESSFUL, BAD-SHAPE}
+use Rattle.specification.specs.Answer.{Outcome, outcome, Refusal, _⇒_, refuseIfAny}
 use Rattle.differences.specs.declared.answer.Answer.{Answer}
 use Rattle.differences.specs.declared.difference.Difference.{Difference}
 use Rattle.differences.specs.declared.image.ImageRecord.{ImageRecord}
@@ -23,26 +24,30 @@ recordDifference table number one two =
 
 -- ---- An image
 
-abbrev pub queuesTable : ℕ
-queuesTable = 0
+-- "0 queues, 1 pool, 2 tasks"
+abbrev pub queuesNumber : ℕ
+queuesNumber = 0
 
-abbrev pub poolTable : ℕ
-poolTable = 1
+abbrev pub poolNumber : ℕ
+poolNumber = 1
 
-abbrev pub tasksTable : ℕ
-tasksTable = 2
+abbrev pub tasksNumber : ℕ
+tasksNumber = 2
 
--- the records of a table that starts at a place of the image, in order
-unfoldable pub tableRecords : (table place count width : ℕ) → List ImageRecord
-tableRecords table place count width =
-    map (λ n. record { table = table; number = n; start = place + n * width; width = width }) (numbersFrom 0 count)
+-- record `n` of a table that starts at a place of the image
+abbrev pub tableRecord : (table place width n : ℕ) → ImageRecord
+tableRecord table place width n = record { table = table; number = n; start = place + n * width; width = width }
+
+-- the records of such a table, in order
+unfoldable pub tableRecords : (table place width count : ℕ) → List ImageRecord
+tableRecords table place width count = map (tableRecord table place width) (numbersFrom 0 count)
 
 -- "in image order"
 unfoldable pub imageRecords : List ImageRecord
 imageRecords =
-    tableRecords queuesTable queuesPlace slotCount queueWidth
-    ++ tableRecords poolTable poolPlace bufferCount bufferWidth
-    ++ tableRecords tasksTable tasksPlace taskCount taskWidth
+    tableRecords queuesNumber queuesPlace queueWidth slotCount
+    ++ tableRecords poolNumber poolPlace bufferWidth bufferCount
+    ++ tableRecords tasksNumber tasksPlace taskWidth taskCount
 
 -- the difference of two images in one record
 unfoldable pub differenceIn : (one two : List ℕ) → ImageRecord → Difference
@@ -58,27 +63,24 @@ differences one two = keepIf differs (map (differenceIn one two) imageRecords)
 
 -- ---- The answer and the list
 
--- what a comparison answers, and the list that it leaves
-pub record ListOutcome : Type 0 where
-  pub answer : Answer
-  pub list : List Difference
-
--- "the answer is status 0 with their number as value, and entries past it stay as they were"
-unfoldable pub filledWith : (entries list : List Difference) → ListOutcome
-filledWith entries list =
-    record {
-      answer = record { status = SUCCESSFUL; value = length entries; woken = 0 };
-      list = entries ++ drop (length entries) list;
-    }
-
--- "gives 16 and leaves the list untouched"
-unfoldable pub refusedShape : (list : List Difference) → ListOutcome
-refusedShape list = record { answer = record { status = BAD-SHAPE; value = 0; woken = 0 }; list = list }
-
--- "Room for under 112 or a wrong length gives 16"
+-- neither "Room for under 112" nor "a wrong length"
 unfoldable pub comparable : (one two : List ℕ) (room : ℕ) → Bool
 comparable one two room = eqb (length one) imageSize && eqb (length two) imageSize && leb imageRecordCount room
 
-unfoldable pub compared : (one two : List ℕ) (list : List Difference) → ListOutcome
-compared one two list =
-    if comparable one two (length list) then filledWith (differences one two) list else refusedShape list
+-- "Room for under 112 or a wrong length gives 16"
+unfoldable pub refusals : (one two : List ℕ) (room : ℕ) → List Refusal
+refusals one two room = (not (comparable one two room) ⇒ BAD-SHAPE) ∷ []
+
+-- "the answer is status 0 with their number as value, and entries past it stay as they were"
+unfoldable pub filled : (entries list : List Difference) → Outcome (List Difference)
+filled entries list = outcome SUCCESSFUL (length entries) 0 (entries ++ drop (length entries) list)
+
+-- The answer, and the list after it. A refusal "leaves the list untouched".
+unfoldable pub compared : (one two : List ℕ) (list : List Difference) → Outcome (List Difference)
+compared one two list = refuseIfAny list (refusals one two (length list)) (filled (differences one two) list)
+
+-- ---- For the code
+
+-- what the code answered, and the list that it left
+abbrev pub listOutcome : Answer → List Difference → Outcome (List Difference)
+listOutcome a list = outcome (a .status) (a .value) (a .woken) list

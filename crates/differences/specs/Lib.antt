@@ -1,4 +1,3 @@
--- What the contracts cite, and differences written out.
 pub mod Differences
 pub mod Comparisons
 pub mod DifferenceCases

@@ -1,6 +1,6 @@
 // The lent list filled.
 ghost use mathlib.Core.Path.{_≡_};
-ghost use Rattle.differences.specs.Differences.{compared};
+ghost use Rattle.differences.specs.Differences.{listOutcome, compared};
 use crate::answer::Answer;
 use crate::comparison::advance;
 use crate::comparison::begin;
@@ -9,7 +9,7 @@ use crate::difference::Difference;
 // Fills the list with the differences of two images, in image order: status 0 and their number. Entries past it stay as they were. Where an
 // image has a wrong length, or the list has room for fewer entries than an image has records: status 16, and the list is untouched.
 pub fn compare(one: &[u8], two: &[u8], list: &mut [Difference]) -> Answer
-    ensures { λ r. ⌜ (record { answer = r; list = now (list .exit) })
+    ensures { λ r. ⌜ listOutcome r (now (list .exit))
         ≡ compared (now (one .entry)) (now (two .entry)) (now (list .entry)) ⌝ }
 {
     let mut c = begin(one, two, list.len());

@@ -4,10 +4,12 @@ ghost use mathlib.Core.Bool.{false};
 ghost use Prim.Native.Nat.{_+_, _<_, _≤_};
 ghost use lib.ListN.{length};
 ghost use Rattle.records.specs.Layout.{imageSize, imageRecordCount};
+ghost use Rattle.differences.specs.Differences.{comparable};
 ghost use Rattle.differences.specs.Comparisons.{answerWith, Reached, Sought};
 use crate::answer::Answer;
+use crate::difference::BLANK;
 use crate::difference::Difference;
-use crate::difference::difference_at;
+use crate::record_difference::difference_at;
 use records::layout::IMAGE_RECORD_COUNT;
 use records::layout::IMAGE_SIZE;
 use records::status::BAD_SHAPE;
@@ -22,30 +24,33 @@ pub struct Comparison {
     pub answer: Answer,
 }
 
-// No entry is left: the comparison has come to this answer.
+// An answer that wakes nobody.
+fn answer_with(status: u8, value: usize) -> Answer
+    requires { ⌜ value ≤ imageRecordCount ⌝ }
+    ensures { λ r. ⌜ r ≡ answerWith status value ⌝ }
+{
+    Answer {
+        status: status as u32,
+        value: value as u32,
+        woken: 0,
+    }
+}
+
+// No entry is left, and the answer stands.
 fn ended(status: u8, at: usize) -> Comparison
     requires { ⌜ at ≤ imageRecordCount ⌝ }
     ensures { λ r. ⌜ (r .more ≡ false) × ((r .at ≡ at) × (r .answer ≡ answerWith status at)) ⌝ }
 {
     Comparison {
         more: false,
-        entry: Difference {
-            table: 0,
-            number: 0,
-            place: 0,
-            count: 0,
-        },
+        entry: BLANK,
         at,
         next: IMAGE_RECORD_COUNT,
-        answer: Answer {
-            status: status as u32,
-            value: at as u32,
-            woken: 0,
-        },
+        answer: answer_with(status, at),
     }
 }
 
-// The first record from record k on that differs; so many entries are stored.
+// With `at` entries stored, the next: of the first record from record k on that differs.
 fn seek(one: &[u8], two: &[u8], at: usize, k: usize) -> Comparison
     requires { ⌜ (length (now one) ≡ imageSize) × ((length (now two) ≡ imageSize) × (at ≤ imageRecordCount)) ⌝ }
     ensures { λ r. ⌜ Sought (now (one .entry)) (now (two .entry)) at k r ⌝ }
@@ -60,25 +65,27 @@ fn seek(one: &[u8], two: &[u8], at: usize, k: usize) -> Comparison
                 entry,
                 at,
                 next: k,
-                answer: Answer {
-                    status: SUCCESSFUL as u32,
-                    value: at as u32,
-                    woken: 0,
-                },
+                answer: answer_with(SUCCESSFUL, at),
             };
         }
     }
     ended(SUCCESSFUL, at)
 }
 
-// Where a comparison begins: refused, or at the first record that differs.
+fn are_comparable(one: &[u8], two: &[u8], room: usize) -> bool
+    ensures { λ r. ⌜ r ≡ comparable (now (one .entry)) (now (two .entry)) room ⌝ }
+{
+    (one.len() == IMAGE_SIZE) & (two.len() == IMAGE_SIZE) & (IMAGE_RECORD_COUNT <= room)
+}
+
+// Where a comparison begins: refused, at the first record that differs, or at its end if none does.
 pub fn begin(one: &[u8], two: &[u8], room: usize) -> Comparison
     ensures { λ r. ⌜ (r .at ≡ 0) × Reached (now (one .entry)) (now (two .entry)) room r ⌝ }
 {
-    if (one.len() == IMAGE_SIZE) & (two.len() == IMAGE_SIZE) & (IMAGE_RECORD_COUNT <= room) {
-        return seek(one, two, 0, 0);
+    if !are_comparable(one, two, room) {
+        return ended(BAD_SHAPE, 0);
     }
-    ended(BAD_SHAPE, 0)
+    seek(one, two, 0, 0)
 }
 
 // The entry is stored: on to the next.

@@ -1,6 +1,7 @@
 // The records of an image.
 ghost use mathlib.Core.Path.{_≡_};
 ghost use Prim.Native.Nat.{_+_, _<_, _≤_};
+ghost use Rattle.bytes.specs.LittleEndian.{byteValues};
 ghost use Rattle.records.specs.Layout.{imageSize, imageRecordCount};
 ghost use Rattle.differences.specs.Comparisons.{imageRecordAt};
 use records::layout::BUFFER_COUNT;
@@ -12,11 +13,12 @@ use records::layout::SLOT_COUNT;
 use records::layout::TASK_WIDTH;
 use records::layout::TASKS_PLACE;
 
-const QUEUES_TABLE: u8 = 0;
+// "0 queues, 1 pool, 2 tasks"
+const QUEUES_NUMBER: u8 = 0;
 
-const POOL_TABLE: u8 = 1;
+const POOL_NUMBER: u8 = 1;
 
-const TASKS_TABLE: u8 = 2;
+const TASKS_NUMBER: u8 = 2;
 
 // A record of an image: its table, its number there, where it starts, and how many bytes it has.
 pub struct ImageRecord {
@@ -29,11 +31,11 @@ pub struct ImageRecord {
 // Record k of an image.
 pub fn image_record(k: usize) -> ImageRecord
     requires { ⌜ k < imageRecordCount ⌝ }
-    ensures { λ r. ⌜ (r ≡ imageRecordAt k) × ((r .start + r .width ≤ imageSize) × (r .width < 256)) ⌝ }
+    ensures { λ r. ⌜ (r ≡ imageRecordAt k) × ((r .start + r .width ≤ imageSize) × (r .width < byteValues)) ⌝ }
 {
     if k < SLOT_COUNT {
         return ImageRecord {
-            table: QUEUES_TABLE,
+            table: QUEUES_NUMBER,
             number: k as u8,
             start: QUEUES_PLACE + k * QUEUE_WIDTH,
             width: QUEUE_WIDTH,
@@ -42,7 +44,7 @@ pub fn image_record(k: usize) -> ImageRecord
     if k < SLOT_COUNT + BUFFER_COUNT {
         let n = k - SLOT_COUNT;
         return ImageRecord {
-            table: POOL_TABLE,
+            table: POOL_NUMBER,
             number: n as u8,
             start: POOL_PLACE + n * BUFFER_WIDTH,
             width: BUFFER_WIDTH,
@@ -50,7 +52,7 @@ pub fn image_record(k: usize) -> ImageRecord
     }
     let n = k - (SLOT_COUNT + BUFFER_COUNT);
     ImageRecord {
-        table: TASKS_TABLE,
+        table: TASKS_NUMBER,
         number: n as u8,
         start: TASKS_PLACE + n * TASK_WIDTH,
         width: TASK_WIDTH,

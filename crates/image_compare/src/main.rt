@@ -1,36 +1,39 @@
 // Prints what differs between the images in two files, named as its arguments.
+ghost use lib.ListN.{take};
 ghost use Rattle.io.specs.Counts.{Counts};
-use imageio::files::FILE_ROOM;
-use imageio::files::read_file;
+ghost use Rattle.image_compare.specs.Arguments.{Argument, PrintsArguments};
 use imageio::printing::print_differences;
+use imageio::printing::print_files;
+use libc::PATH_MAX;
 use streams::writing::say_failed;
 
-// The arguments and the program's own name.
+// The program's own name and two paths.
 const ARGUMENT_COUNT: usize = 3;
 
-// Reads the file that argument i names. How many bytes it has: none where it can't be read.
-fn read_argument(i: usize, buffer: &mut [u8; FILE_ROOM]) -> usize
-    ensures { λ r. ⌜ Counts r (now (buffer .exit)) ⌝ }
+// Puts argument i at the front of the buffer. How long it is: 0 where it is longer than any path.
+fn argument(i: usize, path: &mut [u8; PATH_MAX]) -> usize
+    ensures { λ r. ⌜ Argument i (take r (now (path .exit))) ⌝ }
+    ensures { λ r. ⌜ Counts r (now (path .exit)) ⌝ }
 {
-    let mut path = io::buffer();
-    let n = os::arg(i, &mut path);
-    read_file(&path[..n], buffer)
+    os::arg(i, path)
 }
 
-// Where an argument is missing, or there is one too many, no file is read. Whether all was printed.
-fn print_arguments() -> bool {
-    let mut one = [0u8; FILE_ROOM];
-    let mut two = [0u8; FILE_ROOM];
-    if os::arg_count() != ARGUMENT_COUNT {
-        return print_differences(&one[..0], &two[..0]);
+// Prints what differs between the files that the arguments name, if there are two. Whether it was done.
+fn print_arguments(count: usize) -> bool
+    ensures { λ r. ⌜ PrintsArguments count r ⌝ }
+{
+    if count != ARGUMENT_COUNT {
+        return print_differences(&[], &[]);
     }
-    let n = read_argument(1, &mut one);
-    let m = read_argument(2, &mut two);
-    print_differences(&one[..n], &two[..m])
+    let mut one = io::buffer();
+    let mut two = io::buffer();
+    let n = argument(1, &mut one);
+    let m = argument(2, &mut two);
+    print_files(&one[..n], &two[..m])
 }
 
 fn main() {
-    if !print_arguments() {
+    if !print_arguments(os::arg_count()) {
         say_failed(b"standard output");
     }
 }

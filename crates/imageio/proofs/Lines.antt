@@ -3,20 +3,23 @@ use Prim.Native.Nat.{ℕ, zero, suc, _+_, _*_, _<_, _≤_}
 use native.Mathlib.Omega.{arith}
 use native.Mathlib.Numerals.{add-one}
 use mathlib.Core.Path.{_≡_, sym, ap, _∙_}
-use mathlib.Core.Bool.{Bool, true, false}
-use mathlib.Core.Logic.{inl, inr}
+use mathlib.Core.Bool.{Bool, true, false, not}
+use mathlib.Core.Logic.{_⊎_, inl, inr}
 use mathlib.Core.List.{List, [], _∷_, _++_, flatten, append-assoc, append-nil}
-use lib.ListN.{length, take, drop, getD}
-use lib.Seq.{take-append-seam}
+use lib.Dec.{eqb}
+use lib.ListN.{length, take, getD}
+use borrow.Author.Tests.{eq-eqb, ne-eqb}
 use Rattle.ranks.specs.Lists.{if_then_else_}
 use Rattle.ranks.proofs.Tests.{either}
 use Rattle.records.specs.Layout.{imageRecordCount}
-use Rattle.differences.specs.Differences.{ListOutcome, differences, comparable, filledWith, refusedShape, compared}
+use Rattle.records.specs.Status.{SUCCESSFUL, BAD-SHAPE}
+use Rattle.specification.specs.Answer.{Outcome, _⇒_, refuseIfAny}
+use Rattle.differences.specs.Differences.{differences, comparable, refusals, filled, compared, listOutcome}
 use Rattle.differences.specs.Comparisons.{blanks}
 use Rattle.differences.specs.declared.answer.Answer.{Answer}
 use Rattle.differences.specs.declared.difference.Difference.{Difference}
 use Rattle.differences.proofs.Entries.{few}
-use Rattle.imageio.specs.Printed.{line, linesOf, refusal, printed}
+use Rattle.imageio.specs.Printed.{newline, numberThen, line, linesOf, printed, printedOf}
 use Rattle.imageio.specs.Texts.{lineRoom, textRoom, Appends}
 
 -- the line of the next entry comes behind those of the first
@@ -41,30 +44,42 @@ pub record LinesPut (entries : List Difference) (n : ℕ) (out : List ℕ) (at i
 
 -- ---- What is printed, from what a comparison answers and the list that it leaves
 
-module _ (one two : List ℕ) (a : Answer) (es : List Difference) (e : record { answer = a; list = es } ≡ compared one two blanks) where
-  abbrev ds : List Difference
-  ds = differences one two
+-- refused or not, as the two images and the list are
+by-shape : (one two : List ℕ) (list : List Difference) (b : Bool) → comparable one two (length list) ≡ b
+    → compared one two list ≡ refuseIfAny list ((not b ⇒ BAD-SHAPE) ∷ []) (filled (differences one two) list)
+unfolding compared refusals
+by-shape one two list b g = ap (λ (t : Bool). refuseIfAny list ((not t ⇒ BAD-SHAPE) ∷ []) (filled (differences one two) list)) g
 
-  -- where the comparison is not refused
-  accepted : comparable one two imageRecordCount ≡ true → record { answer = a; list = es } ≡ filledWith ds blanks
-  unfolding compared
-  accepted g = e ∙ ap (λ (b : Bool). if b then filledWith ds blanks else refusedShape blanks) g
+module _ (one two : List ℕ) (a : Answer) (es : List Difference) (e : listOutcome a es ≡ compared one two blanks) where
+  abbrev status : Outcome (List Difference) → ℕ
+  status o = o .answer .status
 
-  not-accepted : comparable one two imageRecordCount ≡ false → record { answer = a; list = es } ≡ refusedShape blanks
-  unfolding compared
-  not-accepted g = e ∙ ap (λ (b : Bool). if b then filledWith ds blanks else refusedShape blanks) g
+  abbrev value : Outcome (List Difference) → ℕ
+  value o = o .answer .value
 
-  pub refused : (a .status ≡ 0 → ⊥) → printed one two ≡ refusal
-  unfolding printed filledWith
-  refused n = elim (either (comparable one two imageRecordCount)) [ inl g ↦ absurd (n (ap (λ (o : ListOutcome). o .answer .status) (accepted g))) | inr g ↦ rw g ]
-
-  pub listed : a .status ≡ 0 → (a .value ≤ imageRecordCount) × (linesOf (take (a .value) es) ≡ printed one two)
-  unfolding printed filledWith refusedShape
-  listed z =
+  -- a refusal is 16, and else there are few entries
+  refused-or-few : (a .status ≡ BAD-SHAPE) ⊎ ((a .status ≡ SUCCESSFUL) × (a .value ≤ imageRecordCount))
+  unfolding refuseIfAny filled
+  refused-or-few =
       elim (either (comparable one two imageRecordCount)) [
-        | inl g ↦
-            let value : a .value ≡ length ds = ap (λ (o : ListOutcome). o .answer .value) (accepted g) in
-            let list : es ≡ ds ++ drop (length ds) blanks = ap (λ (o : ListOutcome). o .list) (accepted g) in
-            (omega (arith, few one two), rw (g, value, list, take-append-seam ds (drop (length ds) blanks)))
-        | inr g ↦ absurd (omega (arith, ap (λ (o : ListOutcome). o .answer .status) (not-accepted g)))
+        | inl g ↦ let f = e ∙ by-shape one two blanks true g in inr (ap status f, omega (arith, ap value f, few one two))
+        | inr g ↦ inl (ap status (e ∙ by-shape one two blanks false g))
       ]
+
+  abbrev choose : Bool → List ℕ
+  choose b = if b then linesOf (take (a .value) es) else numberThen (a .status) newline
+
+  -- what is printed, by a test of the status
+  by-status : (b : Bool) → eqb (a .status) SUCCESSFUL ≡ b → choose b ≡ printedOf one two
+  unfolding printedOf printed
+  by-status b t = sym (ap choose t) ∙ ap printed e
+
+  pub refused : (a .status ≡ SUCCESSFUL → ⊥) → numberThen BAD-SHAPE newline ≡ printedOf one two
+  refused n =
+      elim refused-or-few [
+        | inl s ↦ ap (λ (k : ℕ). numberThen k newline) (sym s) ∙ by-status false (ne-eqb (a .status) SUCCESSFUL n)
+        | inr p ↦ absurd (n (p .0))
+      ]
+
+  pub listed : a .status ≡ SUCCESSFUL → (a .value ≤ imageRecordCount) × (linesOf (take (a .value) es) ≡ printedOf one two)
+  listed z = (elim refused-or-few [ inl s ↦ absurd (omega (arith, z, s)) | inr p ↦ p .1 ], by-status true (eq-eqb (a .status) SUCCESSFUL z))

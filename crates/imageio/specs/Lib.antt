@@ -1,4 +1,4 @@
--- What the contracts cite, and lines written out.
 pub mod Printed
 pub mod PrintedCases
+pub mod Reading
 pub mod Texts

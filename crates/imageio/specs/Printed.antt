@@ -1,9 +1,10 @@
 -- Document 02, [2] "Image compare": what the program prints.
-use Rattle.ranks.specs.Prelude.{ℕ, _+_, _/_, _%_, List, [], _∷_, _++_, map, flatten, ltb}
+use Rattle.ranks.specs.Prelude.{ℕ, _+_, _/_, _%_, List, [], _∷_, _++_, map, flatten, take, eqb, ltb}
 use Rattle.ranks.specs.Lists.{if_then_else_}
-use Rattle.records.specs.Layout.{imageRecordCount}
-use Rattle.records.specs.Status.{BAD-SHAPE}
-use Rattle.differences.specs.Differences.{differences, comparable}
+use Rattle.records.specs.Status.{SUCCESSFUL}
+use Rattle.specification.specs.Answer.{Outcome}
+use Rattle.differences.specs.Differences.{compared}
+use Rattle.differences.specs.Comparisons.{blanks}
 use Rattle.differences.specs.declared.difference.Difference.{Difference}
 
 -- ---- ASCII
@@ -18,7 +19,7 @@ space = 32
 unfoldable pub digit : ℕ → ℕ
 digit d = 48 + d
 
--- a number below 1,000 in decimal, with no zero in front of it
+-- a byte, or any other number below 1,000, in decimal, with no zero in front of it
 unfoldable pub decimal : ℕ → List ℕ
 decimal n =
     if ltb n 10 then digit n ∷ []
@@ -40,10 +41,14 @@ line d =
 abbrev pub linesOf : List Difference → List ℕ
 linesOf ds = flatten (map line ds)
 
--- "or 16 alone"
-unfoldable pub refusal : List ℕ
-refusal = numberThen BAD-SHAPE newline
+-- ---- The program
 
--- "A program prints the list": the list has room for all entries that there can be. Of a file that can't be read there are no bytes.
-unfoldable pub printed : (one two : List ℕ) → List ℕ
-printed one two = if comparable one two imageRecordCount then linesOf (differences one two) else refusal
+-- "prints the list", as far as the value says, "or 16 alone"
+unfoldable pub printed : Outcome (List Difference) → List ℕ
+printed o =
+    if eqb (o .answer .status) SUCCESSFUL then linesOf (take (o .answer .value) (o .after)) else numberThen (o .answer .status) newline
+
+-- What is printed of two files with these bytes: of the comparison into a list with room for all that can differ. A file that can't be read
+-- has none.
+unfoldable pub printedOf : (one two : List ℕ) → List ℕ
+printedOf one two = printed (compared one two blanks)

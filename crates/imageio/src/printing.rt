@@ -1,17 +1,31 @@
 // A comparison printed.
 ghost use Rattle.streams.specs.Writing.{standardOutput, Writes};
-ghost use Rattle.imageio.specs.Printed.{printed};
+ghost use Rattle.imageio.specs.Printed.{printedOf};
+ghost use Rattle.imageio.specs.Reading.{PrintsFiles};
+use crate::files::FILE_ROOM;
+use crate::files::read_file;
 use crate::text::TEXT_ROOM;
 use crate::text::put_differences;
 use streams::writing::standard_output;
 use streams::writing::write;
 
-// Writes the differences of two images to standard output. Whether it was done.
+// Writes what differs between two images to standard output. Whether it was done.
 pub fn print_differences(one: &[u8], two: &[u8]) -> bool
-    ensures { λ r. ⌜ Writes standardOutput (printed (now (one .entry)) (now (two .entry))) r ⌝ }
+    ensures { λ r. ⌜ Writes standardOutput (printedOf (now (one .entry)) (now (two .entry))) r ⌝ }
 {
     let mut text = [0u8; TEXT_ROOM];
     let end = put_differences(&mut text, one, two);
     let to = standard_output();
     write(to, &text[..end])
+}
+
+// Writes what differs between the images in two files, named by their paths. Whether it was done.
+pub fn print_files(one: &[u8], two: &[u8]) -> bool
+    ensures { λ r. ⌜ PrintsFiles (now (one .entry)) (now (two .entry)) r ⌝ }
+{
+    let mut first = [0u8; FILE_ROOM];
+    let mut second = [0u8; FILE_ROOM];
+    let n = read_file(one, &mut first);
+    let m = read_file(two, &mut second);
+    print_differences(&first[..n], &second[..m])
 }

@@ -4,17 +4,21 @@ ghost use Prim.Native.Nat.{_+_, _<_, _≤_};
 ghost use lib.ListN.{length, take};
 ghost use mathlib.Core.List.{_∷_, []};
 ghost use Rattle.records.specs.Layout.{imageRecordCount};
-ghost use Rattle.imageio.specs.Printed.{decimal, numberThen, line, linesOf, printed};
+ghost use Rattle.imageio.specs.Printed.{decimal, numberThen, line, linesOf, printedOf};
 ghost use Rattle.imageio.specs.Printed.{digit as Printed·digit};
-ghost use Rattle.imageio.specs.Texts.{lineRoom, textRoom, Appends};
+ghost use Rattle.imageio.specs.Texts.{digitsRoom, numberRoom, lineRoom, textRoom, Appends};
 use differences::difference::Difference;
 use differences::listed::list_differences;
 use records::layout::IMAGE_RECORD_COUNT;
 use records::status::BAD_SHAPE;
 use records::status::SUCCESSFUL;
 
-// Four numbers of three digits, three spaces and a line's end.
-const LINE_ROOM: usize = 16;
+// The most digits that a byte has, then a byte behind them, four times in a line.
+const DIGITS_ROOM: usize = 3;
+
+const NUMBER_ROOM: usize = DIGITS_ROOM + 1;
+
+const LINE_ROOM: usize = 4 * NUMBER_ROOM;
 
 pub const TEXT_ROOM: usize = LINE_ROOM * IMAGE_RECORD_COUNT;
 
@@ -35,8 +39,8 @@ fn put(out: &mut [u8], at: usize, b: u8) -> usize
 }
 
 fn put_decimal(out: &mut [u8], at: usize, n: u8) -> usize
-    requires { ⌜ at + 3 ≤ length (now out) ⌝ }
-    ensures { λ r. ⌜ Appends (now (out .entry)) at (decimal n) (now (out .exit)) r × (r ≤ at + 3) ⌝ }
+    requires { ⌜ at + digitsRoom ≤ length (now out) ⌝ }
+    ensures { λ r. ⌜ Appends (now (out .entry)) at (decimal n) (now (out .exit)) r × (r ≤ at + digitsRoom) ⌝ }
 {
     if n < 10 {
         return put(out, at, digit(n));
@@ -52,8 +56,8 @@ fn put_decimal(out: &mut [u8], at: usize, n: u8) -> usize
 
 // A number and the byte behind it.
 fn put_number(out: &mut [u8], at: usize, n: u8, behind: u8) -> usize
-    requires { ⌜ at + 4 ≤ length (now out) ⌝ }
-    ensures { λ r. ⌜ Appends (now (out .entry)) at (numberThen n behind) (now (out .exit)) r × (r ≤ at + 4) ⌝ }
+    requires { ⌜ at + numberRoom ≤ length (now out) ⌝ }
+    ensures { λ r. ⌜ Appends (now (out .entry)) at (numberThen n behind) (now (out .exit)) r × (r ≤ at + numberRoom) ⌝ }
 {
     let at = put_decimal(out, at, n);
     put(out, at, behind)
@@ -69,15 +73,15 @@ fn put_line(out: &mut [u8], at: usize, d: Difference) -> usize
     put_number(out, at, d.count, b'\n')
 }
 
-// The lines of the first n entries of a list.
-fn put_lines(out: &mut [u8], entries: [Difference; IMAGE_RECORD_COUNT], n: usize) -> usize
+// The lines of the first n entries of a list. Where the text ends.
+fn put_lines(out: &mut [u8], list: [Difference; IMAGE_RECORD_COUNT], n: usize) -> usize
     requires { ⌜ (length (now out) ≡ textRoom) × (n ≤ imageRecordCount) ⌝ }
-    ensures { λ r. ⌜ (take r (now (out .exit)) ≡ linesOf (take n entries)) × (r ≤ length (now (out .exit))) ⌝ }
+    ensures { λ r. ⌜ (take r (now (out .exit)) ≡ linesOf (take n list)) × (r ≤ length (now (out .exit))) ⌝ }
 {
     let mut at = 0;
     let mut i = 0;
     while i < n {
-        at = put_line(out, at, entries[i]);
+        at = put_line(out, at, list[i]);
         i += 1;
     }
     at
@@ -86,12 +90,12 @@ fn put_lines(out: &mut [u8], entries: [Difference; IMAGE_RECORD_COUNT], n: usize
 // The differences of two images as text, at the front of the buffer. How long it is.
 pub fn put_differences(out: &mut [u8], one: &[u8], two: &[u8]) -> usize
     requires { ⌜ length (now out) ≡ textRoom ⌝ }
-    ensures { λ r. ⌜ (take r (now (out .exit)) ≡ printed (now (one .entry)) (now (two .entry))) × (r ≤ length (now (out .exit))) ⌝ }
+    ensures { λ r. ⌜ (take r (now (out .exit)) ≡ printedOf (now (one .entry)) (now (two .entry))) × (r ≤ length (now (out .exit))) ⌝ }
 {
     let l = list_differences(one, two);
     if l.answer.status != SUCCESSFUL as u32 {
         return put_number(out, 0, BAD_SHAPE, b'\n');
     }
-    let entries = l.entries;
-    put_lines(out, entries, l.answer.value as usize)
+    let list = l.list;
+    put_lines(out, list, l.answer.value as usize)
 }

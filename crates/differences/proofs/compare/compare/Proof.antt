@@ -49,8 +49,8 @@ use denote.Triple.Walked.{says, Stays, stay-none-slice, stay-slice, walkOf, goes
 use denote.Exit.{yes}
 use Rattle.ranks.proofs.Tests.{either}
 use Rattle.records.specs.Layout.{imageSize, imageRecordCount}
-use Rattle.differences.specs.Differences.{compared}
-use Rattle.differences.specs.Comparisons.{entries, Reached}
+use Rattle.differences.specs.Differences.{compared, listOutcome}
+use Rattle.differences.specs.Comparisons.{entriesFor, Reached}
 use Rattle.differences.specs.declared.difference.Difference.{Difference}
 use Rattle.differences.specs.declared.comparison.Comparison.{Comparison}
 use Rattle.differences.proofs.Images.{machine, Owned, lends}
@@ -158,7 +158,7 @@ module _ {M : Type 1} (𝓤 : URA M) (H : Heap 𝓤) (A : Atoms 𝓤) (W : Given
 
   -- ---- the exit: the list is owned at its last value ys
   exits : (c : Comparison) (ys : List Difference) → length ys ≡ length zs → Is N.the-row (c .answer) (N′.lowered (c .answer) ∷ [])
-      → record { answer = c .answer; list = ys } ≡ compared (x .now) (y .now) zs
+      → listOutcome (c .answer) ys ≡ compared (x .now) (y .now) zs
       → ent 𝓤 (⋆ 𝓤 H A (‵ (fobs γ (codedHoleys D.the-row .code (heres D.the-row ys))) ∷ ‵ (fbor κ₂ (Held D.the-row (length ys) b o γ)) ∷ ‵ (flft κ₂ q₂) ∷ Tok ∷ ‵ OwnX ∷ ‵ OwnY ∷ [])) (Post (N′.lowered (c .answer)))
   exits c ys len is e =
       qed W (‵ (fobs γ (codedHoleys D.the-row .code (heres D.the-row ys))) ∷ ‵ (fbor κ₂ (Held D.the-row (length ys) b o γ)) ∷ ‵ (flft κ₂ q₂) ∷ Tok ∷ ‵ OwnX ∷ ‵ OwnY ∷ []) ∵
@@ -175,7 +175,7 @@ module _ {M : Type 1} (𝓤 : URA M) (H : Heap 𝓤) (A : Atoms 𝓤) (W : Given
   St = (c : Comparison) × ((ys : List Difference) × (storing.Stored (x .now) (y .now) zs c ys × Is C.the-row c (mach c ∷ [])))
 
   abbrev left : St → ℕ
-  left t = length (entries (x .now) (y .now) (length zs)) - t .0 .at
+  left t = length (entriesFor (x .now) (y .now) (length zs)) - t .0 .at
 
   abbrev Nearer : St → St → Type 0
   Nearer t u = left t < left u
@@ -256,7 +256,7 @@ module _ {M : Type 1} (𝓤 : URA M) (H : Heap 𝓤) (A : Atoms 𝓤) (W : Given
             assigns ! (bin ! (load ! (from ! (fld ! refl (stop !))) (look-in ! 15 (sub ! 2 refl (whole !)))) (lit ! tt) (record { fits = small })) (from ! (stop !)) (init ! 9 refl (tt, record { fits = small })) $
             assigns ! (bin ! (load ! (from ! (fld ! refl (stop !))) (look-in ! 17 (sub ! 0 refl (whole !)))) (load ! (from ! (stop !)) (look ! 9 refl)) tt) (from ! (stop !)) (init ! 7 refl (tt, tt)) $
             rewrite ! 7 (λ (p : ℕ). ‵ (fat fullShare tyPtr l₈ 0 (vptr b p))) (sym (place-is 4 o (c .at))) refl $
-            -- the entry'c place is taken out of the row, stored to, and put back
+            -- the entry's place is taken out of the row, stored to, and put back
             move ! (3 ∷ []) $ elem-out ! D.the-row (Is D.the-row) (shows 𝓤 H A D.the-row) (LL.vals D.the-type D′.the-laws) (LL.tells D.the-type D′.the-laws) fullShare ys (c .at) (c .entry) b o within (λ _.
             -- [the place; what it owns; the others; the images' tokens; what the images own; the open borrow; obs; auth; _8; …]
             assigns ! (of-opd ! (load ! (from ! (fld ! refl (stop !))) (look-in ! 17 (sub ! 1 refl (whole !))))) (from ! (hop ! (look ! 9 refl) (stop !))) (store-raw ! 0 refl (LL.lawful D.the-type D′.the-laws 𝓤 H A W .typed (c .entry) _ is-entry .0)) $

@@ -19,10 +19,10 @@ abbrev μ-loop : tie.MeasureT-loop
 returns : tie.Need-returns Inv-loop μ-loop
 unfolding Sought unstored
 returns c =
-    let d = c .before .before in
+    let d = c .before .before .before in
     let l = d .before .before in
     let a = l .before .before .before .args in
-    (record-differs (a .one .now) (a .two .now) (l .loop .k) (d .difference-at .result) (d .before .loop-test .taken) (d .difference-at .ensures) (c .if1 .taken) ∙ l .loop .inv, (refl, refl))
+    (record-differs (a .one .now) (a .two .now) (l .loop .k) (d .difference-at .result) (d .before .loop-test .taken) (d .difference-at .ensures) (c .before .if1 .taken) ∙ l .loop .inv, (refl, c .answer-with .ensures))
 
 loop-again : tie.Need-loop-again Inv-loop μ-loop
 loop-again c =
@@ -48,8 +48,7 @@ seek-spec =
     (search needs)
     (search needs)
     (omega arith)
-    (omega arith)
-    (omega arith)
+    (search needs)
     returns
     (omega arith)
     loop-again

@@ -33,7 +33,7 @@ use denote.Memory.{pointee, cellAt, partAt, partOf, mem, shares}
 use denote.Laws.{Is, shows}
 use denote.Builtin.{u8}
 use denote.Ref.{RefT}
-use denote.Slice.{sliceTy, sliceVal, slice-vals, MutSlice, ShrSlice, Room, shr-slice-tells, shr-slice-lawful}
+use denote.Slice.{sliceTy, sliceVal, slice-vals, ShrSlice, Room, shr-slice-tells, shr-slice-lawful}
 use denote.Lend.{Held, lends-slice, slice-back}
 use denote.Index.{row, whole-out, whole-in}
 use denote.Signature.{plain}
@@ -41,19 +41,20 @@ use denote.Steps.{only, owned, facts, heard, nothing}
 use denote.Struct.Laws as LL
 use denote.Triple.Entry.{onEntry}
 use denote.Triple.Spec.{Meets, tripleOf}
-use denote.Triple.Statement.{Contract, Triple}
+use denote.Triple.Statement.{Triple}
 use denote.Triple.Call.{calls-at}
 use denote.Triple.Clauses.{ensured, lasts}
 use denote.Triple.Table.{entered, cited}
 use denote.Triple.Walked.{says, Stays, stay-none-slice, walkOf, goes-none-slice, Walks, ends-at, walked, walk-meets}
 use denote.Exit.{yes}
 use Rattle.records.specs.Layout.{imageRecordCount}
-use Rattle.differences.specs.Differences.{compared}
+use Rattle.differences.specs.Differences.{compared, listOutcome}
 use Rattle.differences.specs.Comparisons.{blank, blanks}
 use Rattle.differences.specs.declared.difference.Difference.{Difference}
 use Rattle.differences.specs.declared.answer.Answer.{Answer}
 use Rattle.differences.specs.declared.listed.Listed.{Listed}
-use Rattle.differences.proofs.Images.{machine, Owned, lends}
+use Rattle.differences.proofs.Comparing.{Compare, OwnedList, Tokens, passed, lends-list}
+use Rattle.differences.proofs.Images.{machine, Owned}
 use Rattle.differences.proofs.difference.Difference as D
 use Rattle.differences.proofs.difference.Difference.Laws as D′
 use Rattle.differences.proofs.answer.Answer as N
@@ -72,10 +73,6 @@ use Rattle.differences.proofs.listed.list_differences.Code.Mir as body
 
 abbrev stayed : Stays (self.ended .signature .params) (self.ended .kept)
 stayed = (stay-none-slice (0 ∷ []) tt (plain (λ _. u8)) yes, (stay-none-slice (1 ∷ []) tt (plain (λ _. u8)) yes, tt))
-
--- the contract that the proof cites
-abbrev Callee : {M : Type 1} (𝓤 : URA M) (H : Heap 𝓤) (A : Atoms 𝓤) (mem″ : Memory → SProp 𝓤) (run : Routine → Fun 𝓤) → Contract 𝓤
-Callee 𝓤 H A mem″ run = tripleOf 𝓤 H A callee.signature (callee.spec 𝓤 H A mem″ run)
 
 -- ---- the array
 abbrev Entries : RattleType
@@ -156,26 +153,17 @@ module _ {M : Type 1} (𝓤 : URA M) (H : Heap 𝓤) (A : Atoms 𝓤) (W : Given
     abbrev z : RefT (List Difference)
     z = record { ptr = (l, 0); name = γ; now = blanks }
 
-    abbrev vz : Val
-    vz = sliceVal (l, 0) imageRecordCount
-
     abbrev Lent : Fml
-    Lent = MutSlice (named 2) (ν ∷ []) D.the-row .own z (vz ∷ [])
+    Lent = OwnedList (ν ∷ []) z
 
-    abbrev bound : Callee 𝓤 H A mem″ run .Ghost
-    bound = (((κ₀, (κ₁, (ν ∷ [], tt))), (q₀, (q₁, (fullShare, tt))), tt, (x, (y, (z, tt))), (vx ∷ [], (vy ∷ [], (vz ∷ [], tt)))), tt)
+    abbrev bound : Compare 𝓤 H A mem″ run .Ghost
+    bound = passed 𝓤 H A W mem″ run κ₀ κ₁ (ν ∷ []) q₀ q₁ fullShare x y z
 
     abbrev Toks : Item 𝓤
-    Toks = ‵ (flft κ₀ q₀) ⊛ ‵ (flft κ₁ q₁) ⊛ ‵ (flft (ν ∷ []) fullShare) ⊛ ‵ ftrue
+    Toks = Tokens κ₀ κ₁ (ν ∷ []) q₀ q₁ fullShare
 
-    -- what the callee asks is made of the array lent, the tokens and what the images own
-    asked : ent 𝓤 (⋆ 𝓤 H A ((‵ Lent ⊛ Toks) ∷ ‵ OwnX ∷ ‵ OwnY ∷ [])) (Callee 𝓤 H A mem″ run .pre bound)
-    asked =
-        qed W ((‵ Lent ⊛ Toks) ∷ ‵ OwnX ∷ ‵ OwnY ∷ []) ∵ split ! $ nothing ! $ move ! (1 ∷ 0 ∷ []) $ fjoin ! $ move ! (3 ∷ 0 ∷ []) $ fjoin ! $ move ! (2 ∷ 0 ∷ []) $ fjoin ! $
-        move ! (1 ∷ 0 ∷ []) $ join ! $ frame ! $ done !
-
-    -- that, and what the images own is kept
-    goes : ent 𝓤 (⋆ 𝓤 H A ((‵ Lent ⊛ ‵ (flft (ν ∷ []) fullShare)) ∷ Tok ∷ ‵ Own ∷ [])) (⋆ 𝓤 H A (raw (Callee 𝓤 H A mem″ run .pre bound) ∷ ‵ OwnX ∷ ‵ OwnY ∷ []))
+    -- the array goes to the callee, and what the images own is kept
+    goes : ent 𝓤 (⋆ 𝓤 H A ((‵ Lent ⊛ ‵ (flft (ν ∷ []) fullShare)) ∷ Tok ∷ ‵ Own ∷ [])) (⋆ 𝓤 H A (raw (Compare 𝓤 H A mem″ run .pre bound) ∷ ‵ OwnX ∷ ‵ OwnY ∷ []))
     goes =
         qed W ((‵ Lent ⊛ ‵ (flft (ν ∷ []) fullShare)) ∷ Tok ∷ ‵ Own ∷ []) ∵ move ! (2 ∷ []) $ fsplit ! $ move ! (1 ∷ []) $ fsplit ! $
         -- [what two owns; true; what one owns; the array lent and its token; the images' tokens]
@@ -183,16 +171,16 @@ module _ {M : Type 1} (𝓤 : URA M) (H : Heap 𝓤) (A : Atoms 𝓤) (W : Given
         -- [the array lent; its token; the token of two; true; the token of one; what two owns; true; what one owns]
         move ! (1 ∷ 3 ∷ []) $ join ! $ move ! (2 ∷ 0 ∷ []) $ join ! $ move ! (2 ∷ 0 ∷ []) $ join ! $ move ! (1 ∷ 0 ∷ []) $ join ! $
         -- [the array lent and the tokens; what two owns; true; what one owns]
-        move ! (0 ∷ 3 ∷ 1 ∷ []) $ use3 W (raw (Callee 𝓤 H A mem″ run .pre bound) ⊛ ‵ OwnX ⊛ ‵ OwnY) (lends 𝓤 H A W κ₀ κ₁ x y (‵ Lent ⊛ Toks) _ asked) $
+        move ! (0 ∷ 3 ∷ 1 ∷ []) $ use3 W (raw (Compare 𝓤 H A mem″ run .pre bound) ⊛ ‵ OwnX ⊛ ‵ OwnY) (lends-list 𝓤 H A W mem″ run κ₀ κ₁ (ν ∷ []) q₀ q₁ fullShare x y z) $
         split ! $ move ! (1 ∷ []) $ split ! $ keep ! (2 ∷ 0 ∷ 1 ∷ []) $ done !
 
   -- what the clause says of the answer and the list
   abbrev Says : Answer → List Difference → Type 0
-  Says r zs = record { answer = r; list = zs } ≡ compared (x .now) (y .now) blanks
+  Says r zs = listOutcome r zs ≡ compared (x .now) (y .now) blanks
 
   module _ (r : Answer) (zs : List Difference) (is : Is N.the-row r (N′.lowered r ∷ [])) (isz : Is Entries zs (mach zs ∷ [])) (e : Says r zs) where
     abbrev res : Listed
-    res = record { answer = r; entries = zs }
+    res = record { answer = r; list = zs }
 
     is-res : Is L.the-row res (L′.lowered res ∷ [])
     is-res = ((N′.lowered r ∷ [], (mach zs ∷ [], tt)), (refl, (is, ((isz .0, ((isz .1 .0 .0, length-map zs (D.the-field .into) ∙ isz .1 .0 .1), each-field zs (isz .0) (isz .1 .1))), tt))))
@@ -229,7 +217,7 @@ module _ {M : Type 1} (𝓤 : URA M) (H : Heap 𝓤) (A : Atoms 𝓤) (W : Given
           move ! (19 ∷ 20 ∷ []) $ free1 ! $ move ! (17 ∷ 18 ∷ []) $ free1 ! $ move ! (15 ∷ 16 ∷ []) $ free1 ! $ move ! (13 ∷ 14 ∷ []) $ free1 ! $ move ! (11 ∷ 12 ∷ []) $ free1 ! $ move ! (9 ∷ 10 ∷ []) $ free1 ! $
           move ! (7 ∷ 8 ∷ []) $ free1 ! $ move ! (5 ∷ 6 ∷ []) $ free1 ! $ move ! (3 ∷ 4 ∷ []) $ free1 ! $ free0 ! $ by ! exits
 
-  module _ (C : Calls 𝓤 H) (Λ : Loops 𝓤 H) (fm : FmC 𝓤 H (W .laws) C) (known : Triple 𝓤 (C #callee) (Callee 𝓤 H A mem″ run)) where
+  module _ (C : Calls 𝓤 H) (Λ : Loops 𝓤 H) (fm : FmC 𝓤 H (W .laws) C) (known : Triple 𝓤 (C #callee) (Compare 𝓤 H A mem″ run)) where
     walk : Is (ShrSlice (named 0) κ₀ u8) x (vx ∷ []) → Is (ShrSlice (named 1) κ₁ u8) y (vy ∷ [])
         → ent 𝓤 (onEntry 𝓤 H A self.signature (κ₀, (κ₁, tt)) (q₀, (q₁, tt)) (x, (y, tt)) (vx ∷ [], (vy ∷ [], tt))) (WpFn 𝓤 H C Λ code.function (vx ∷ vy ∷ []) Post)
     walk px py =
@@ -244,9 +232,9 @@ module _ {M : Type 1} (𝓤 : URA M) (H : Heap 𝓤) (A : Atoms 𝓤) (W : Given
         move ! (10 ∷ []) $ use1 W (‵ (cells (mem D.the-row) blanks l₃ 0)) (apart 𝓤 H A W blanks l₃ is-blanks) $ lft-new ! tt (λ ν. move ! (1 ∷ []) $
         use1 W (later (some (λ (γ : GName). ‵ (Lent ν l₃ γ) ⊛ ‵ (flent (ν ∷ []) (Held D.the-row imageRecordCount l₃ 0 γ))))) (lends-slice 𝓤 H A W D.the-row (named 2) (ν ∷ []) blanks l₃ 0 room) $ await ! tt $ pick ! (λ γ. split ! $
         -- [the array lent; the lender's part; its token; _8; …, without _3's cell; the images' tokens; what the images own]
-        move ! (0 ∷ 2 ∷ 20 ∷ 21 ∷ []) $ join ! $ use3 W (raw (Callee 𝓤 H A mem″ run .pre (bound ν l₃ γ)) ⊛ ‵ OwnX ⊛ ‵ OwnY) (goes ν l₃ γ) $ split ! $ move ! (1 ∷ []) $ split ! $ move ! (2 ∷ []) $
+        move ! (0 ∷ 2 ∷ 20 ∷ 21 ∷ []) $ join ! $ use3 W (raw (Compare 𝓤 H A mem″ run .pre (bound ν l₃ γ)) ⊛ ‵ OwnX ⊛ ‵ OwnY) (goes ν l₃ γ) $ split ! $ move ! (1 ∷ []) $ split ! $ move ! (2 ∷ []) $
         -- [what `compare` asks; what the images own; the lender's part; _8; …]
-        calls-at ! fm (Callee 𝓤 H A mem″ run) known (bound ν l₃ γ) (and-then ! (load ! (from ! (stop !)) (look ! 17 refl)) (and-then ! (load ! (from ! (stop !)) (look ! 15 refl)) (and-then ! (load ! (from ! (stop !)) (look ! 6 refl)) (no-more !)))) (λ u.
+        calls-at ! fm (Compare 𝓤 H A mem″ run) known (bound ν l₃ γ) (and-then ! (load ! (from ! (stop !)) (look ! 17 refl)) (and-then ! (load ! (from ! (stop !)) (look ! 15 refl)) (and-then ! (load ! (from ! (stop !)) (look ! 6 refl)) (no-more !)))) (λ u.
         use1 W (later (some (λ (r : Answer). (Toks ν l₃ γ ⊛ ‵ (N.the-row .own r (u ∷ []))) ⊛ raw (ensured 𝓤 H A callee.ended (callee.clauses 𝓤 H A mem″ run) (κ₀, (κ₁, (ν ∷ [], tt))) (x, (y, (z ν l₃ γ, tt))) tt r)))) (id⊢ 𝓤 _) $ await ! tt $ pick ! (λ r.
         split ! $ move ! (1 ∷ []) $ use1 W (some (λ (ws : Unit {0} × (Unit {0} × (List Difference × Unit {0}))). ‵ (lasts callee.ended (κ₀, (κ₁, (ν ∷ [], tt))) (x, (y, (z ν l₃ γ, tt))) ws) ⊛ raw (fact 𝓤 (Says r (ws .1 .1 .0))))) (id⊢ 𝓤 _) $ pick ! (λ ws.
         split ! $ move ! (1 ∷ []) $ heard ! (Says r (ws .1 .1 .0)) (λ e. fsplit ! $ move ! (1 ∷ []) $ fsplit ! $ move ! (1 ∷ []) $ fsplit ! $ fsplit ! $ move ! (1 ∷ []) $ feqL ! (λ l.
@@ -263,7 +251,7 @@ module _ {M : Type 1} (𝓤 : URA M) (H : Heap 𝓤) (A : Atoms 𝓤) (W : Given
         rewrite ! 11 (λ (v : Val). ‵ (fat fullShare N′.mir l₄ 0 v)) (ap only (N′.lowers .val-is r _ is)) refl $
         finished r (ws .1 .1 .0) (subst (Is N.the-row r) (N′.lowers .val-is r _ is) is) isz e C Λ l₀ l₁ l₂ l₃ l₄ l₅ l₆ l₇ l₈))))))))))))))))))
 
-module _ {M : Type 1} (𝓤 : URA M) (H : Heap 𝓤) (A : Atoms 𝓤) (W : Given 𝓤 H A) (mem″ : Memory → SProp 𝓤) (run : Routine → Fun 𝓤) (𝓣 : Tables 𝓤 H) (known : Triple 𝓤 (𝓣 .C #callee) (Callee 𝓤 H A mem″ run)) where
+module _ {M : Type 1} (𝓤 : URA M) (H : Heap 𝓤) (A : Atoms 𝓤) (W : Given 𝓤 H A) (mem″ : Memory → SProp 𝓤) (run : Routine → Fun 𝓤) (𝓣 : Tables 𝓤 H) (known : Triple 𝓤 (𝓣 .C #callee) (Compare 𝓤 H A mem″ run)) where
   walks : Walks 𝓤 H A self.ended stayed (WpFn 𝓤 H (𝓣 .C) (𝓣 .Λ) code.function) (self.clauses 𝓤 H A mem″ run)
   walks = walked 𝓤 H A self.ended stayed (self.clauses 𝓤 H A mem″ run) (WpFn 𝓤 H (𝓣 .C) (𝓣 .Λ) code.function)
       (λ κs. (slice-vals, (slice-vals, tt))) (λ κs. (shr-slice-tells (named 0) (κs .0) u8, (shr-slice-tells (named 1) (κs .1 .0) u8, tt)))
@@ -280,4 +268,4 @@ list-differences-spec 𝓤 H 𝓜 𝓖 𝓡 =
     entered 𝓤 H (tripleOf 𝓤 H (𝓖 .A) self.signature (self.spec 𝓤 H (𝓖 .A) (𝓜 .mem) (𝓡 .run)))
     (tables 𝓤 H 𝓜 𝓡 code.env .C) (tables 𝓤 H 𝓜 𝓡 code.env .Λ) #self code.function (code.unfolded 𝓤 H 𝓜 𝓡)
     (meets 𝓤 H (𝓖 .A) (givenOf 𝓤 H 𝓜 𝓖) (𝓜 .mem) (𝓡 .run) (tablesOf 𝓤 H 𝓜 (tables 𝓤 H 𝓜 𝓡 code.env))
-    (cited 𝓤 H (Callee 𝓤 H (𝓖 .A) (𝓜 .mem) (𝓡 .run)) 𝓜 𝓡 code.env #callee callee-def.routine code.calls-differences·compare·compare (callee-thm.met 𝓤 H 𝓜 𝓖 𝓡)))
+    (cited 𝓤 H (Compare 𝓤 H (𝓖 .A) (𝓜 .mem) (𝓡 .run)) 𝓜 𝓡 code.env #callee callee-def.routine code.calls-differences·compare·compare (callee-thm.met 𝓤 H 𝓜 𝓖 𝓡)))

@@ -1,10 +1,10 @@
--- `differences::difference::record_difference` meets its contract. Assumes nothing.
+-- `differences::record_difference::record_difference` meets its contract. Assumes nothing.
 use Prim.Native.Nat.{_+_, _-_, _≤_}
 use native.Mathlib.Omega.{arith}
 use lib.ListN.{length}
 use Rattle.differences.proofs.Differing.{Counted, none-counted, place-same, place-differs, all-counted}
-use Rattle.differences.proofs.difference.record_difference.Statement.{statement}
-use Rattle.differences.proofs.difference.record_difference.Tie as tie
+use Rattle.differences.proofs.record_difference.record_difference.Statement.{statement}
+use Rattle.differences.proofs.record_difference.record_difference.Tie as tie
 
 -- the loop goes from the last place to the first
 abbrev Inv-loop : tie.InvT-loop

@@ -1,4 +1,4 @@
--- `differences::difference::difference_at` meets its contract. Assumes nothing.
+-- `differences::record_difference::difference_at` meets its contract. Assumes nothing.
 use native.Mathlib.Omega.{arith}
 use Prim.Native.Nat.{ℕ, _+_, _-_}
 use mathlib.Core.Path.{_≡_, ap, _∙_}
@@ -6,8 +6,8 @@ use lib.ListN.{take, drop}
 use borrow.Author.Needs.{needs}
 use Rattle.ranks.specs.Table.{slice}
 use Rattle.differences.specs.Differences.{recordDifference, differenceIn}
-use Rattle.differences.proofs.difference.difference_at.Statement.{statement}
-use Rattle.differences.proofs.difference.difference_at.Tie as tie
+use Rattle.differences.proofs.record_difference.difference_at.Statement.{statement}
+use Rattle.differences.proofs.record_difference.difference_at.Tie as tie
 
 returns : tie.Need-returns
 unfolding slice differenceIn

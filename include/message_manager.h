@@ -3,8 +3,8 @@
  * The names are those of the RTEMS Classic API.
  *
  * Link with target/staticlib/libmessage_manager.a, for x86-64, which `rt staticlib message_manager` writes. The library
- * allocates nothing, keeps no state and no pointer, and calls nothing back: all that it knows stands in three tables
- * that the host lends to each call.
+ * allocates nothing, keeps no state and no pointer, and calls nothing back: all that it knows stands in what the host
+ * lends to each call, three tables or two images of them.
  *
  *
  * TABLES
@@ -111,7 +111,7 @@ enum message_queue_status {
     MESSAGE_QUEUE_NO_BUFFER = 13,                /* the queue has room, its share has no free buffer */
     MESSAGE_QUEUE_WAITING = 14,                  /* the caller now waits; not a refusal */
     MESSAGE_QUEUE_INVALID_OPTION = 15,           /* unknown attribute or option */
-    MESSAGE_QUEUE_BAD_SHAPE = 16                 /* a buffer of wrong length, a malformed call record, a priority 0 */
+    MESSAGE_QUEUE_BAD_SHAPE = 16                 /* a buffer of wrong length, a list without room, a malformed call record, a priority 0 */
 };
 
 /* Attributes of a queue; both may be given, added. */

@@ -71,7 +71,8 @@ static void show_answer(void)
             show_received(task);
 }
 
-static const char *table_name(uint8_t table)
+/* What a record of a table is. */
+static const char *record_name(uint8_t table)
 {
     return table == MESSAGE_MANAGER_QUEUES ? "queue" : table == MESSAGE_MANAGER_POOL ? "buffer" : "task";
 }
@@ -85,7 +86,7 @@ static void show_changes(const struct tables *before)
         list, MESSAGE_MANAGER_IMAGE_RECORD_COUNT);
     uint32_t i;
     for (i = 0; i < compared.value; i++)
-        printf("    %s %u: first change at byte %u, bytes changed: %u\n", table_name(list[i].table), list[i].number,
+        printf("    %s %u: first change at byte %u, bytes changed: %u\n", record_name(list[i].table), list[i].number,
                list[i].place, list[i].count);
     if (compared.status != MESSAGE_QUEUE_SUCCESSFUL)
         printf("    not compared: %s\n", status_name(compared.status));

@@ -35,8 +35,8 @@ TASK = Layout("6B 2s I 4s 120s", "state queue rank priority status length zeros 
 
 # the tables of an image in order: how many records, their fields, and what one is called
 TABLES = [(16, QUEUE, "queue"), (64, BUFFER, "buffer"), (32, TASK, "task")]
-QUEUES, POOL, TASKS = (count * layout.form.size for count, layout, _ in TABLES)  # their sizes
-IMAGE = QUEUES + POOL + TASKS
+QUEUES_SIZE, POOL_SIZE, TASKS_SIZE = (count * layout.form.size for count, layout, _ in TABLES)
+IMAGE = QUEUES_SIZE + POOL_SIZE + TASKS_SIZE
 
 
 def status_name(status):
@@ -92,4 +92,4 @@ def place_in_words(place):
     for table, number, start, width in image_records():
         if place < start + width:
             return f"{TABLES[table][2]} {number}, byte {place - start}"
-    return "the end of an image"
+    return f"byte {place - IMAGE} past the image"

@@ -1,7 +1,7 @@
 -- What the proofs of several functions cite, and the differences that are written out.
-pub mod Comparing
+pub mod CallOfCompare
 pub mod DifferenceCases
-pub mod Differing
+pub mod DifferingPlaces
 pub mod Entries
-pub mod Images
+pub mod LentImages
 pub mod Storing

@@ -1,10 +1,10 @@
 -- Document 02, [2]: differences written out, and where records of an image stand.
-use Rattle.ranks.specs.Prelude.{ℕ, _≡_, List, [], _∷_, length, replicate, set, getD}
+use Rattle.ranks.specs.Prelude.{ℕ, _≡_, List, [], _∷_, length, take, drop, replicate, set}
 use Rattle.records.specs.Layout.{imageSize, imageRecordCount}
 use Rattle.records.specs.RecordCases.{zeros}
 use Rattle.records.specs.Status.{SUCCESSFUL}
 use Rattle.specification.specs.Answer.{outcome}
-use Rattle.differences.specs.Differences.{recordDifference, imageRecords, filled}
+use Rattle.differences.specs.Differences.{recordDifference, imageRecords, listFilled}
 use Rattle.differences.specs.declared.difference.Difference.{Difference}
 use Rattle.differences.specs.declared.image.ImageRecord.{ImageRecord}
 
@@ -20,12 +20,8 @@ changedAt [] r = r
 changedAt (p ∷ ps) r = set (changedAt ps r) p 255
 
 -- a list of entries that no comparison makes
-abbrev pub lent : (room : ℕ) → List Difference
-lent room = replicate room (difference 9 9 9 9)
-
--- the record with number `k` in the image
-abbrev numbered : ℕ → ImageRecord
-numbered k = getD imageRecords k (standing 0 0 0 0)
+abbrev pub untouched : (room : ℕ) → List Difference
+untouched room = replicate room (difference 9 9 9 9)
 
 pub record DifferencesHold : Type 0 where
   -- "first place in it that differs, how many bytes differ"
@@ -40,14 +36,12 @@ pub record DifferencesHold : Type 0 where
   pub size : imageSize ≡ 12800
   pub count : length imageRecords ≡ imageRecordCount
   pub count-112 : imageRecordCount ≡ 112
-  -- the first and the last record of each table
-  pub first-queue : numbered 0 ≡ standing 0 0 0 16
-  pub last-queue : numbered 15 ≡ standing 0 15 240 16
-  pub first-buffer : numbered 16 ≡ standing 1 0 256 128
-  pub last-buffer : numbered 79 ≡ standing 1 63 8320 128
-  pub first-task : numbered 80 ≡ standing 2 0 8448 136
-  pub last-task : numbered 111 ≡ standing 2 31 12664 136
+  -- the first record, the last of a table and the first of the next, the last
+  pub first : take 1 imageRecords ≡ standing 0 0 0 16 ∷ []
+  pub queues-then-pool : take 2 (drop 15 imageRecords) ≡ standing 0 15 240 16 ∷ standing 1 0 256 128 ∷ []
+  pub pool-then-tasks : take 2 (drop 79 imageRecords) ≡ standing 1 63 8320 128 ∷ standing 2 0 8448 136 ∷ []
+  pub last : drop 111 imageRecords ≡ standing 2 31 12664 136 ∷ []
   -- "the answer is status 0 with their number as value, and entries past it stay as they were"
-  pub past-the-value : filled (difference 1 0 4 1 ∷ difference 2 31 135 1 ∷ []) (lent 4)
-      ≡ outcome SUCCESSFUL 2 0 (difference 1 0 4 1 ∷ difference 2 31 135 1 ∷ lent 2)
-  pub none-differs : filled [] (lent 4) ≡ outcome SUCCESSFUL 0 0 (lent 4)
+  pub past-the-value : listFilled (difference 1 0 4 1 ∷ difference 2 31 135 1 ∷ []) (untouched 4)
+      ≡ outcome SUCCESSFUL 2 0 (difference 1 0 4 1 ∷ difference 2 31 135 1 ∷ untouched 2)
+  pub none-differs : listFilled [] (untouched 4) ≡ outcome SUCCESSFUL 0 0 (untouched 4)

@@ -1,11 +1,10 @@
 -- Document 02, [2] "Image compare": what differs between two images, what a comparison answers, and what the lent list holds afterwards.
-use Rattle.ranks.specs.Prelude.{ℕ, _+_, _*_, Bool, _&&_, not, List, [], _∷_, _++_, map, length, drop, eqb, leb, ltb}
+use Rattle.ranks.specs.Prelude.{ℕ, _+_, _*_, Bool, _&&_, not, List, [], _∷_, _++_, map, length, drop, replicate, eqb, leb, ltb}
 use Rattle.ranks.specs.Lists.{countTrue, firstTrue, keepIf, numbersFrom}
 use Rattle.ranks.specs.Table.{slice}
 use Rattle.records.specs.Layout.{slotCount, queueWidth, bufferCount, bufferWidth, taskCount, taskWidth, queuesPlace, poolPlace, tasksPlace, imageSize, imageRecordCount}
 use Rattle.records.specs.Status.{SUCCESSFUL, BAD-SHAPE}
 use Rattle.specification.specs.Answer.{Outcome, outcome, Refusal, _⇒_, refuseIfAny}
-use Rattle.differences.specs.declared.answer.Answer.{Answer}
 use Rattle.differences.specs.declared.difference.Difference.{Difference}
 use Rattle.differences.specs.declared.image.ImageRecord.{ImageRecord}
 
@@ -25,14 +24,14 @@ recordDifference table number one two =
 -- ---- An image
 
 -- "0 queues, 1 pool, 2 tasks"
-abbrev pub queuesNumber : ℕ
-queuesNumber = 0
+abbrev pub queuesTableNumber : ℕ
+queuesTableNumber = 0
 
-abbrev pub poolNumber : ℕ
-poolNumber = 1
+abbrev pub poolTableNumber : ℕ
+poolTableNumber = 1
 
-abbrev pub tasksNumber : ℕ
-tasksNumber = 2
+abbrev pub tasksTableNumber : ℕ
+tasksTableNumber = 2
 
 -- record `n` of a table that starts at a place of the image
 abbrev pub tableRecord : (table place width n : ℕ) → ImageRecord
@@ -45,9 +44,9 @@ tableRecords table place width count = map (tableRecord table place width) (numb
 -- "in image order"
 unfoldable pub imageRecords : List ImageRecord
 imageRecords =
-    tableRecords queuesNumber queuesPlace queueWidth slotCount
-    ++ tableRecords poolNumber poolPlace bufferWidth bufferCount
-    ++ tableRecords tasksNumber tasksPlace taskWidth taskCount
+    tableRecords queuesTableNumber queuesPlace queueWidth slotCount
+    ++ tableRecords poolTableNumber poolPlace bufferWidth bufferCount
+    ++ tableRecords tasksTableNumber tasksPlace taskWidth taskCount
 
 -- the difference of two images in one record
 unfoldable pub differenceIn : (one two : List ℕ) → ImageRecord → Difference
@@ -63,7 +62,7 @@ differences one two = keepIf differs (map (differenceIn one two) imageRecords)
 
 -- ---- The answer and the list
 
--- neither "Room for under 112" nor "a wrong length"
+-- Neither "Room for under 112" nor "a wrong length". Nothing else is asked: "Unsound images are compared too."
 unfoldable pub comparable : (one two : List ℕ) (room : ℕ) → Bool
 comparable one two room = eqb (length one) imageSize && eqb (length two) imageSize && leb imageRecordCount room
 
@@ -72,15 +71,17 @@ unfoldable pub refusals : (one two : List ℕ) (room : ℕ) → List Refusal
 refusals one two room = (not (comparable one two room) ⇒ BAD-SHAPE) ∷ []
 
 -- "the answer is status 0 with their number as value, and entries past it stay as they were"
-unfoldable pub filled : (entries list : List Difference) → Outcome (List Difference)
-filled entries list = outcome SUCCESSFUL (length entries) 0 (entries ++ drop (length entries) list)
+unfoldable pub listFilled : (entries list : List Difference) → Outcome (List Difference)
+listFilled entries list = outcome SUCCESSFUL (length entries) 0 (entries ++ drop (length entries) list)
 
 -- The answer, and the list after it. A refusal "leaves the list untouched".
 unfoldable pub compared : (one two : List ℕ) (list : List Difference) → Outcome (List Difference)
-compared one two list = refuseIfAny list (refusals one two (length list)) (filled (differences one two) list)
+compared one two list = refuseIfAny list (refusals one two (length list)) (listFilled (differences one two) list)
 
--- ---- For the code
+-- ---- A list of blank entries, with room for all that can differ
 
--- what the code answered, and the list that it left
-abbrev pub listOutcome : Answer → List Difference → Outcome (List Difference)
-listOutcome a list = outcome (a .status) (a .value) (a .woken) list
+abbrev pub blank : Difference
+blank = record { table = 0; number = 0; place = 0; count = 0 }
+
+abbrev pub blanks : List Difference
+blanks = replicate imageRecordCount blank

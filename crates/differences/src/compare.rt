@@ -1,6 +1,7 @@
 // The lent list filled.
 ghost use mathlib.Core.Path.{_≡_};
-ghost use Rattle.differences.specs.Differences.{listOutcome, compared};
+ghost use Rattle.differences.specs.Differences.{compared};
+ghost use Rattle.differences.specs.Comparisons.{listOutcome};
 use crate::answer::Answer;
 use crate::comparison::advance;
 use crate::comparison::begin;
@@ -12,6 +13,7 @@ pub fn compare(one: &[u8], two: &[u8], list: &mut [Difference]) -> Answer
     ensures { λ r. ⌜ listOutcome r (now (list .exit))
         ≡ compared (now (one .entry)) (now (two .entry)) (now (list .entry)) ⌝ }
 {
+    // refused, there is nothing to store
     let mut c = begin(one, two, list.len());
     while c.more {
         list[c.at] = c.entry;

@@ -4,8 +4,9 @@ ghost use mathlib.Core.Bool.{false};
 ghost use Prim.Native.Nat.{_+_, _<_, _≤_};
 ghost use lib.ListN.{length};
 ghost use Rattle.records.specs.Layout.{imageSize, imageRecordCount};
+ghost use Rattle.records.specs.Status.{SUCCESSFUL};
 ghost use Rattle.differences.specs.Differences.{comparable};
-ghost use Rattle.differences.specs.Comparisons.{answerWith, Reached, Sought};
+ghost use Rattle.differences.specs.Comparisons.{differencesFrom, entriesFor, statusFor, answerWith, Stands};
 use crate::answer::Answer;
 use crate::difference::BLANK;
 use crate::difference::Difference;
@@ -53,7 +54,7 @@ fn ended(status: u8, at: usize) -> Comparison
 // With `at` entries stored, the next: of the first record from record k on that differs.
 fn seek(one: &[u8], two: &[u8], at: usize, k: usize) -> Comparison
     requires { ⌜ (length (now one) ≡ imageSize) × ((length (now two) ≡ imageSize) × (at ≤ imageRecordCount)) ⌝ }
-    ensures { λ r. ⌜ Sought (now (one .entry)) (now (two .entry)) at k r ⌝ }
+    ensures { λ r. ⌜ Stands (now (one .entry)) (now (two .entry)) (differencesFrom (now (one .entry)) (now (two .entry)) k) SUCCESSFUL at r ⌝ }
 {
     let mut k = k;
     while k < IMAGE_RECORD_COUNT {
@@ -80,7 +81,7 @@ fn are_comparable(one: &[u8], two: &[u8], room: usize) -> bool
 
 // Where a comparison begins: refused, at the first record that differs, or at its end if none does.
 pub fn begin(one: &[u8], two: &[u8], room: usize) -> Comparison
-    ensures { λ r. ⌜ (r .at ≡ 0) × Reached (now (one .entry)) (now (two .entry)) room r ⌝ }
+    ensures { λ r. ⌜ Stands (now (one .entry)) (now (two .entry)) (entriesFor (now (one .entry)) (now (two .entry)) room) (statusFor (now (one .entry)) (now (two .entry)) room) 0 r ⌝ }
 {
     if !are_comparable(one, two, room) {
         return ended(BAD_SHAPE, 0);
@@ -91,7 +92,7 @@ pub fn begin(one: &[u8], two: &[u8], room: usize) -> Comparison
 // The entry is stored: on to the next.
 pub fn advance(one: &[u8], two: &[u8], c: Comparison) -> Comparison
     requires { ⌜ (length (now one) ≡ imageSize) × ((length (now two) ≡ imageSize) × (c .at < imageRecordCount)) ⌝ }
-    ensures { λ r. ⌜ Sought (now (one .entry)) (now (two .entry)) (c .at + 1) (c .next) r ⌝ }
+    ensures { λ r. ⌜ Stands (now (one .entry)) (now (two .entry)) (differencesFrom (now (one .entry)) (now (two .entry)) (c .next)) SUCCESSFUL (c .at + 1) r ⌝ }
 {
     seek(one, two, c.at + 1, c.next)
 }

@@ -14,11 +14,11 @@ use records::layout::TASK_WIDTH;
 use records::layout::TASKS_PLACE;
 
 // "0 queues, 1 pool, 2 tasks"
-const QUEUES_NUMBER: u8 = 0;
+const QUEUES_TABLE_NUMBER: u8 = 0;
 
-const POOL_NUMBER: u8 = 1;
+const POOL_TABLE_NUMBER: u8 = 1;
 
-const TASKS_NUMBER: u8 = 2;
+const TASKS_TABLE_NUMBER: u8 = 2;
 
 // A record of an image: its table, its number there, where it starts, and how many bytes it has.
 pub struct ImageRecord {
@@ -35,7 +35,7 @@ pub fn image_record(k: usize) -> ImageRecord
 {
     if k < SLOT_COUNT {
         return ImageRecord {
-            table: QUEUES_NUMBER,
+            table: QUEUES_TABLE_NUMBER,
             number: k as u8,
             start: QUEUES_PLACE + k * QUEUE_WIDTH,
             width: QUEUE_WIDTH,
@@ -44,7 +44,7 @@ pub fn image_record(k: usize) -> ImageRecord
     if k < SLOT_COUNT + BUFFER_COUNT {
         let n = k - SLOT_COUNT;
         return ImageRecord {
-            table: POOL_NUMBER,
+            table: POOL_TABLE_NUMBER,
             number: n as u8,
             start: POOL_PLACE + n * BUFFER_WIDTH,
             width: BUFFER_WIDTH,
@@ -52,7 +52,7 @@ pub fn image_record(k: usize) -> ImageRecord
     }
     let n = k - (SLOT_COUNT + BUFFER_COUNT);
     ImageRecord {
-        table: TASKS_NUMBER,
+        table: TASKS_TABLE_NUMBER,
         number: n as u8,
         start: TASKS_PLACE + n * TASK_WIDTH,
         width: TASK_WIDTH,

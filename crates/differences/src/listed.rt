@@ -1,7 +1,7 @@
 // The list by value, for a caller that has none to lend.
 ghost use mathlib.Core.Path.{_≡_};
-ghost use Rattle.differences.specs.Differences.{listOutcome, compared};
-ghost use Rattle.differences.specs.Comparisons.{blanks};
+ghost use Rattle.differences.specs.Differences.{blanks, compared};
+ghost use Rattle.differences.specs.Comparisons.{listOutcome};
 use crate::answer::Answer;
 use crate::compare::compare;
 use crate::difference::BLANK;

@@ -18,7 +18,7 @@ fn argument(i: usize, path: &mut [u8; PATH_MAX]) -> usize
     os::arg(i, path)
 }
 
-// Prints what differs between the files that the arguments name, if there are two. Whether it was done.
+// Prints what differs between the files that the arguments name, if there are two; else as of two files with no bytes. Whether it was done.
 fn print_arguments(count: usize) -> bool
     ensures { λ r. ⌜ PrintsArguments count r ⌝ }
 {

@@ -1,7 +1,9 @@
 // Prints what differs between stored images in data/, pair by pair: the names of the two files, and then what image_compare prints of them.
 //
 // base is a sound image. The others are base with some bytes changed: one, three of one record, the first and the last byte of each table,
-// some in each of the 112 records, every byte; or with a byte less, a byte more, no bytes. missing is not there, and "." is a directory. What has to be printed comes from an independent program, written from document 02 and sharing nothing with this code.
+// some in each of the 112 records, every byte; or with a byte less, a byte more, no bytes. missing is not there, and "." is a directory.
+//
+// What has to be printed comes from an independent program, written from document 02 and sharing nothing with this code.
 use imageio::printing::print_files;
 use streams::writing::standard_output;
 use streams::writing::write;

@@ -14,8 +14,8 @@ use Rattle.ranks.proofs.Tests.{either}
 use Rattle.records.specs.Layout.{imageRecordCount}
 use Rattle.records.specs.Status.{SUCCESSFUL, BAD-SHAPE}
 use Rattle.specification.specs.Answer.{Outcome, _⇒_, refuseIfAny}
-use Rattle.differences.specs.Differences.{differences, comparable, refusals, filled, compared, listOutcome}
-use Rattle.differences.specs.Comparisons.{blanks}
+use Rattle.differences.specs.Differences.{differences, comparable, refusals, listFilled, compared, blanks}
+use Rattle.differences.specs.Comparisons.{listOutcome}
 use Rattle.differences.specs.declared.answer.Answer.{Answer}
 use Rattle.differences.specs.declared.difference.Difference.{Difference}
 use Rattle.differences.proofs.Entries.{few}
@@ -46,9 +46,9 @@ pub record LinesPut (entries : List Difference) (n : ℕ) (out : List ℕ) (at i
 
 -- refused or not, as the two images and the list are
 by-shape : (one two : List ℕ) (list : List Difference) (b : Bool) → comparable one two (length list) ≡ b
-    → compared one two list ≡ refuseIfAny list ((not b ⇒ BAD-SHAPE) ∷ []) (filled (differences one two) list)
+    → compared one two list ≡ refuseIfAny list ((not b ⇒ BAD-SHAPE) ∷ []) (listFilled (differences one two) list)
 unfolding compared refusals
-by-shape one two list b g = ap (λ (t : Bool). refuseIfAny list ((not t ⇒ BAD-SHAPE) ∷ []) (filled (differences one two) list)) g
+by-shape one two list b g = ap (λ (t : Bool). refuseIfAny list ((not t ⇒ BAD-SHAPE) ∷ []) (listFilled (differences one two) list)) g
 
 module _ (one two : List ℕ) (a : Answer) (es : List Difference) (e : listOutcome a es ≡ compared one two blanks) where
   abbrev status : Outcome (List Difference) → ℕ
@@ -59,7 +59,7 @@ module _ (one two : List ℕ) (a : Answer) (es : List Difference) (e : listOutco
 
   -- a refusal is 16, and else there are few entries
   refused-or-few : (a .status ≡ BAD-SHAPE) ⊎ ((a .status ≡ SUCCESSFUL) × (a .value ≤ imageRecordCount))
-  unfolding refuseIfAny filled
+  unfolding refuseIfAny listFilled
   refused-or-few =
       elim (either (comparable one two imageRecordCount)) [
         | inl g ↦ let f = e ∙ by-shape one two blanks true g in inr (ap status f, omega (arith, ap value f, few one two))

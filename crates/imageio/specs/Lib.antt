@@ -1,4 +1,4 @@
+pub mod Files
 pub mod Printed
 pub mod PrintedCases
-pub mod Reading
 pub mod Texts

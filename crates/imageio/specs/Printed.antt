@@ -3,8 +3,7 @@ use Rattle.ranks.specs.Prelude.{ℕ, _+_, _/_, _%_, List, [], _∷_, _++_, map,
 use Rattle.ranks.specs.Lists.{if_then_else_}
 use Rattle.records.specs.Status.{SUCCESSFUL}
 use Rattle.specification.specs.Answer.{Outcome}
-use Rattle.differences.specs.Differences.{compared}
-use Rattle.differences.specs.Comparisons.{blanks}
+use Rattle.differences.specs.Differences.{compared, blanks}
 use Rattle.differences.specs.declared.difference.Difference.{Difference}
 
 -- ---- ASCII
@@ -15,7 +14,7 @@ newline = 10
 abbrev pub space : ℕ
 space = 32
 
--- 0 to 9
+-- the character of a digit, 0 to 9
 unfoldable pub digit : ℕ → ℕ
 digit d = 48 + d
 
@@ -48,7 +47,7 @@ unfoldable pub printed : Outcome (List Difference) → List ℕ
 printed o =
     if eqb (o .answer .status) SUCCESSFUL then linesOf (take (o .answer .value) (o .after)) else numberThen (o .answer .status) newline
 
--- What is printed of two files with these bytes: of the comparison into a list with room for all that can differ. A file that can't be read
--- has none.
+-- What is printed of two files with these bytes, compared into a list with room for all that can differ. "also where it can't read both": a
+-- file that can't be read has no bytes.
 unfoldable pub printedOf : (one two : List ℕ) → List ℕ
 printedOf one two = printed (compared one two blanks)

@@ -1,7 +1,7 @@
 // A comparison printed.
 ghost use Rattle.streams.specs.Writing.{standardOutput, Writes};
 ghost use Rattle.imageio.specs.Printed.{printedOf};
-ghost use Rattle.imageio.specs.Reading.{PrintsFiles};
+ghost use Rattle.imageio.specs.Files.{PrintsFiles};
 use crate::files::FILE_ROOM;
 use crate::files::read_file;
 use crate::text::TEXT_ROOM;
@@ -20,12 +20,12 @@ pub fn print_differences(one: &[u8], two: &[u8]) -> bool
 }
 
 // Writes what differs between the images in two files, named by their paths. Whether it was done.
-pub fn print_files(one: &[u8], two: &[u8]) -> bool
-    ensures { λ r. ⌜ PrintsFiles (now (one .entry)) (now (two .entry)) r ⌝ }
+pub fn print_files(first: &[u8], second: &[u8]) -> bool
+    ensures { λ r. ⌜ PrintsFiles (now (first .entry)) (now (second .entry)) r ⌝ }
 {
-    let mut first = [0u8; FILE_ROOM];
-    let mut second = [0u8; FILE_ROOM];
-    let n = read_file(one, &mut first);
-    let m = read_file(two, &mut second);
-    print_differences(&first[..n], &second[..m])
+    let mut one = [0u8; FILE_ROOM];
+    let mut two = [0u8; FILE_ROOM];
+    let n = read_file(first, &mut one);
+    let m = read_file(second, &mut two);
+    print_differences(&one[..n], &two[..m])
 }

@@ -1,6 +1,7 @@
 // What differs between two images, for C. A slice passes as a pointer and a length, that of the list in entries.
 ghost use mathlib.Core.Path.{_≡_};
-ghost use Rattle.differences.specs.Differences.{listOutcome, compared};
+ghost use Rattle.differences.specs.Differences.{compared};
+ghost use Rattle.differences.specs.Comparisons.{listOutcome};
 use differences::answer::Answer;
 use differences::compare::compare;
 use differences::difference::Difference;

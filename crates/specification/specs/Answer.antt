@@ -9,7 +9,7 @@ pub record Answer : Type 0 where
   pub value : ℕ
   pub woken : ℕ
 
--- an answer with the tables after the call, as records or as bytes
+-- an answer with what the call leaves: the tables, as records or as bytes, or a list of differences
 pub record Outcome (S : Type 0) : Type 0 where
   pub answer : Answer
   pub after : S

@@ -1,11 +1,11 @@
 -- `image_compare::print_arguments` meets its contract. Assumes nothing.
 use borrow.Author.Needs.{needs}
-use Rattle.image_compare.specs.Arguments.{files, none}
+use Rattle.image_compare.specs.Arguments.{files, not-two}
 use Rattle.image_compare.proofs.print_arguments.Statement.{statement}
 use Rattle.image_compare.proofs.print_arguments.Tie as tie
 
 returns : tie.Need-returns
-returns c = none (c .before .before .before .if1 .taken) (c .print-differences .ensures)
+returns c = not-two (c .before .before .before .if1 .taken) (c .print-differences .ensures)
 
 returns-2 : tie.Need-returns-2
 returns-2 c =

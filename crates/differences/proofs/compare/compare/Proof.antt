@@ -49,11 +49,11 @@ use denote.Triple.Walked.{says, Stays, stay-none-slice, stay-slice, walkOf, goes
 use denote.Exit.{yes}
 use Rattle.ranks.proofs.Tests.{either}
 use Rattle.records.specs.Layout.{imageSize, imageRecordCount}
-use Rattle.differences.specs.Differences.{compared, listOutcome}
-use Rattle.differences.specs.Comparisons.{entriesFor, Reached}
+use Rattle.differences.specs.Differences.{compared}
+use Rattle.differences.specs.Comparisons.{entriesFor, listOutcome}
 use Rattle.differences.specs.declared.difference.Difference.{Difference}
 use Rattle.differences.specs.declared.comparison.Comparison.{Comparison}
-use Rattle.differences.proofs.Images.{machine, Owned, lends}
+use Rattle.differences.proofs.LentImages.{machine, OwnedImage, lends}
 use Rattle.differences.proofs.Storing as storing
 use Rattle.differences.proofs.difference.Difference as D
 use Rattle.differences.proofs.difference.Difference.Laws as D′
@@ -116,14 +116,14 @@ module _ {M : Type 1} (𝓤 : URA M) (H : Heap 𝓤) (A : Atoms 𝓤) (W : Given
   Tok = ‵ (flft κ₀ q₀) ⊛ ‵ (flft κ₁ q₁) ⊛ ‵ ftrue
 
   abbrev OwnX : Fml
-  OwnX = Owned 0 κ₀ x
+  OwnX = OwnedImage 0 κ₀ x
 
   abbrev OwnY : Fml
-  OwnY = Owned 1 κ₁ y
+  OwnY = OwnedImage 1 κ₁ y
 
   -- what a callee asks is made of that, and what the images own is kept
-  lent : (P : SProp 𝓤) → ent 𝓤 (⋆ 𝓤 H A (Tok ∷ ‵ OwnX ∷ ‵ OwnY ∷ [])) P → ent 𝓤 (⋆ 𝓤 H A (Tok ∷ ‵ OwnX ∷ ‵ OwnY ∷ [])) (⋆ 𝓤 H A (raw P ∷ ‵ OwnX ∷ ‵ OwnY ∷ []))
-  lent = lends 𝓤 H A W κ₀ κ₁ x y Tok
+  keeps-images : (P : SProp 𝓤) → ent 𝓤 (⋆ 𝓤 H A (Tok ∷ ‵ OwnX ∷ ‵ OwnY ∷ [])) P → ent 𝓤 (⋆ 𝓤 H A (Tok ∷ ‵ OwnX ∷ ‵ OwnY ∷ [])) (⋆ 𝓤 H A (raw P ∷ ‵ OwnX ∷ ‵ OwnY ∷ []))
+  keeps-images = lends 𝓤 H A W κ₀ κ₁ x y Tok
 
   -- ---- the call of `begin`: what it is passed, what it asks, and what is known of its result
   abbrev to-begin : Begin 𝓤 H A mem run .Ghost
@@ -135,7 +135,7 @@ module _ {M : Type 1} (𝓤 : URA M) (H : Heap 𝓤) (A : Atoms 𝓤) (W : Given
       move ! (3 ∷ 0 ∷ []) $ fjoin ! $ move ! (2 ∷ 0 ∷ []) $ fjoin ! $ move ! (1 ∷ 0 ∷ []) $ join ! $ frame ! $ done !
 
   abbrev BeginSays : Comparison → Type 0
-  BeginSays c = (c .at ≡ 0) × Reached (x .now) (y .now) (length zs) c
+  BeginSays = storing.First (x .now) (y .now) zs
 
   begin-said : (c : Comparison) → ent 𝓤 (ensured 𝓤 H A begin.ended (begin.clauses 𝓤 H A mem run) (κ₀, (κ₁, tt)) (x, (y, (length zs, tt))) tt c) (fact 𝓤 (BeginSays c))
   begin-said c = exE 𝓤 _ (λ ws. snd∗ 𝓤 (sem 𝓤 H A (lasts begin.ended (κ₀, (κ₁, tt)) (x, (y, (length zs, tt))) ws)) (fact 𝓤 (BeginSays c)))
@@ -263,7 +263,7 @@ module _ {M : Type 1} (𝓤 : URA M) (H : Heap 𝓤) (A : Atoms 𝓤) (W : Given
             move ! (1 ∷ []) $ drop ! $ owned ! D.the-row (Is D.the-row) (LL.makes D.the-type D′.the-plain 𝓤 H A) (c .entry) _ is-entry $ move ! (1 ∷ 0 ∷ []) $
             elem-put ! D.the-row fullShare ys (c .at) (c .entry) (D′.lowered (c .entry) ∷ []) b o within $
             -- [the row; the images' tokens; what the images own; …]
-            move ! (1 ∷ 2 ∷ 3 ∷ []) $ use3 W (raw (Advance 𝓤 H A mem run .pre (to-advance c)) ⊛ ‵ OwnX ⊛ ‵ OwnY) (lent _ (goes-advance c (t .1 .1 .1) (going .1))) $ split ! $ move ! (1 ∷ []) $ split ! $ move ! (2 ∷ []) $
+            move ! (1 ∷ 2 ∷ 3 ∷ []) $ use3 W (raw (Advance 𝓤 H A mem run .pre (to-advance c)) ⊛ ‵ OwnX ⊛ ‵ OwnY) (keeps-images _ (goes-advance c (t .1 .1 .1) (going .1))) $ split ! $ move ! (1 ∷ []) $ split ! $ move ! (2 ∷ []) $
             calls-at-last ! fm (Advance 𝓤 H A mem run) known-advance (to-advance c) (and-then ! (load ! (from ! (stop !)) (look ! 21 refl)) (and-then ! (load ! (from ! (stop !)) (look ! 19 refl)) (and-then ! (load ! (from ! (stop !)) (look ! 15 refl)) (no-more !)))) (λ u.
             use1 W (later (some (λ (c′ : Comparison). (Tok ⊛ ‵ (C.the-row .own c′ (u ∷ []))) ⊛ raw (ensured 𝓤 H A advance.ended (advance.clauses 𝓤 H A mem run) (κ₀, (κ₁, tt)) (x, (y, (c, tt))) tt c′)))) (id⊢ 𝓤 _) $ await ! tt $ pick ! (λ c′.
             split ! $ move ! (1 ∷ []) $ use1 W (raw (fact 𝓤 (AdvanceSays c c′))) (advance-said c c′) $ heard ! (AdvanceSays c c′) (λ n. split ! $ move ! (1 ∷ []) $
@@ -293,7 +293,7 @@ module _ {M : Type 1} (𝓤 : URA M) (H : Heap 𝓤) (A : Atoms 𝓤) (W : Given
       -- the call of `begin`, and what follows it
       started : Sq W (With (‵ (froom C′.mir l₄ 0)) zs) (runs (𝓣 .C) (𝓣 .Λ) En body.t-2 (atRet En Post))
       started =
-          use3 W (raw (Begin 𝓤 H A mem run .pre to-begin) ⊛ ‵ OwnX ⊛ ‵ OwnY) (lent _ goes-begin) $ split ! $ move ! (1 ∷ []) $ split ! $ move ! (2 ∷ []) $
+          use3 W (raw (Begin 𝓤 H A mem run .pre to-begin) ⊛ ‵ OwnX ⊛ ‵ OwnY) (keeps-images _ goes-begin) $ split ! $ move ! (1 ∷ []) $ split ! $ move ! (2 ∷ []) $
           calls-at ! fm (Begin 𝓤 H A mem run) known-begin to-begin (and-then ! (load ! (from ! (stop !)) (look ! 21 refl)) (and-then ! (load ! (from ! (stop !)) (look ! 19 refl)) (and-then ! (load ! (from ! (stop !)) (look ! 13 refl)) (no-more !)))) (λ u.
           use1 W (later (some (λ (c : Comparison). (Tok ⊛ ‵ (C.the-row .own c (u ∷ []))) ⊛ raw (ensured 𝓤 H A begin.ended (begin.clauses 𝓤 H A mem run) (κ₀, (κ₁, tt)) (x, (y, (length zs, tt))) tt c)))) (id⊢ 𝓤 _) $ await ! tt $ pick ! (λ c.
           split ! $ move ! (1 ∷ []) $ use1 W (raw (fact 𝓤 (BeginSays c))) (begin-said c) $ heard ! (BeginSays c) (λ e. split ! $ move ! (1 ∷ []) $
@@ -301,7 +301,7 @@ module _ {M : Type 1} (𝓤 : URA M) (H : Heap 𝓤) (A : Atoms 𝓤) (W : Given
           -- [the images' tokens; what the images own; the row; …]
           land ! (from ! (stop !)) (init ! 15 refl (LL.lawful C.the-type C′.the-laws 𝓤 H A W .typed c _ is .0)) $
           rewrite ! 15 (λ (v : Val). ‵ (fat fullShare C′.mir l₄ 0 v)) (ap only (C′.lowers .val-is c _ is)) refl $
-          looped (c, (zs, (storing.starts (x .now) (y .now) zs c (e .0) (e .1), subst (Is C.the-row c) (C′.lowers .val-is c _ is) is)))))))
+          looped (c, (zs, (storing.starts (x .now) (y .now) zs c e, subst (Is C.the-row c) (C′.lowers .val-is c _ is) is)))))))
 
     -- the MIR up to that call: the borrow is opened
     walk : Is (ShrSlice (named 0) κ₀ u8) x (vx ∷ []) → Is (ShrSlice (named 1) κ₁ u8) y (vy ∷ [])

@@ -4,7 +4,7 @@ use native.Mathlib.Omega.{arith}
 use mathlib.Core.Path.{_≡_, refl, sym, _∙_}
 use borrow.Author.Needs.{needs}
 use Rattle.records.specs.Layout.{imageRecordCount}
-use Rattle.differences.specs.Comparisons.{differencesFrom, unstored, Sought}
+use Rattle.differences.specs.Comparisons.{differencesFrom, unstored, Stands}
 use Rattle.differences.proofs.Entries.{none-after, record-differs, record-equal}
 use Rattle.differences.proofs.comparison.seek.Statement.{statement}
 use Rattle.differences.proofs.comparison.seek.Tie as tie
@@ -17,7 +17,7 @@ abbrev μ-loop : tie.MeasureT-loop
 μ-loop one two at from k₀ k = imageRecordCount - k
 
 returns : tie.Need-returns Inv-loop μ-loop
-unfolding Sought unstored
+unfolding Stands unstored
 returns c =
     let d = c .before .before .before in
     let l = d .before .before in
@@ -32,7 +32,7 @@ loop-again c =
     record-equal (a .one .now) (a .two .now) (l .loop .k) (d .difference-at .result) (d .before .loop-test .taken) (d .difference-at .ensures) (c .if1 .left) ∙ l .loop .inv
 
 returns-2 : tie.Need-returns-2 Inv-loop μ-loop
-unfolding Sought unstored
+unfolding Stands unstored
 returns-2 c =
     let l = c .before .before in
     let a = l .before .before .before .args in

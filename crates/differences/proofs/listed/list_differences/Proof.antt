@@ -48,13 +48,13 @@ use denote.Triple.Table.{entered, cited}
 use denote.Triple.Walked.{says, Stays, stay-none-slice, walkOf, goes-none-slice, Walks, ends-at, walked, walk-meets}
 use denote.Exit.{yes}
 use Rattle.records.specs.Layout.{imageRecordCount}
-use Rattle.differences.specs.Differences.{compared, listOutcome}
-use Rattle.differences.specs.Comparisons.{blank, blanks}
+use Rattle.differences.specs.Differences.{blank, blanks, compared}
+use Rattle.differences.specs.Comparisons.{listOutcome}
 use Rattle.differences.specs.declared.difference.Difference.{Difference}
 use Rattle.differences.specs.declared.answer.Answer.{Answer}
 use Rattle.differences.specs.declared.listed.Listed.{Listed}
-use Rattle.differences.proofs.Comparing.{Compare, OwnedList, Tokens, passed, lends-list}
-use Rattle.differences.proofs.Images.{machine, Owned}
+use Rattle.differences.proofs.CallOfCompare.{Compare, OwnedList, Tokens, passed, lends-list}
+use Rattle.differences.proofs.LentImages.{machine, OwnedImage}
 use Rattle.differences.proofs.difference.Difference as D
 use Rattle.differences.proofs.difference.Difference.Laws as D′
 use Rattle.differences.proofs.answer.Answer as N
@@ -140,10 +140,10 @@ module _ {M : Type 1} (𝓤 : URA M) (H : Heap 𝓤) (A : Atoms 𝓤) (W : Given
   Tok = ‵ (flft κ₀ q₀) ⊛ ‵ (flft κ₁ q₁) ⊛ ‵ ftrue
 
   abbrev OwnX : Fml
-  OwnX = Owned 0 κ₀ x
+  OwnX = OwnedImage 0 κ₀ x
 
   abbrev OwnY : Fml
-  OwnY = Owned 1 κ₁ y
+  OwnY = OwnedImage 1 κ₁ y
 
   abbrev Own : Fml
   Own = owns (ShrSlice (named 0) κ₀ u8 ∷ ShrSlice (named 1) κ₁ u8 ∷ []) (x, (y, tt)) (vx ∷ [], (vy ∷ [], tt))

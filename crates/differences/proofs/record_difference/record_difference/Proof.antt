@@ -2,7 +2,7 @@
 use Prim.Native.Nat.{_+_, _-_, _≤_}
 use native.Mathlib.Omega.{arith}
 use lib.ListN.{length}
-use Rattle.differences.proofs.Differing.{Counted, none-counted, place-same, place-differs, all-counted}
+use Rattle.differences.proofs.DifferingPlaces.{Counted, none-counted, place-same, place-differs, all-counted}
 use Rattle.differences.proofs.record_difference.record_difference.Statement.{statement}
 use Rattle.differences.proofs.record_difference.record_difference.Tie as tie
 

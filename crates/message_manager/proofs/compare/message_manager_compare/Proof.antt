@@ -35,11 +35,12 @@ use denote.Triple.Clauses.{ensured, lasts}
 use denote.Triple.Table.{entered, cited}
 use denote.Triple.Walked.{says, Stays, stay-none-slice, gave-slice, walkOf, goes-none-slice, goes-gave-slice, Walks, ends-at, walked, walk-meets}
 use denote.Exit.{yes}
-use Rattle.differences.specs.Differences.{compared, listOutcome}
+use Rattle.differences.specs.Differences.{compared}
+use Rattle.differences.specs.Comparisons.{listOutcome}
 use Rattle.differences.specs.declared.difference.Difference.{Difference}
 use Rattle.differences.specs.declared.answer.Answer.{Answer}
-use Rattle.differences.proofs.Comparing.{Compare, Tokens, passed, lends-list}
-use Rattle.differences.proofs.Images.{machine, Owned}
+use Rattle.differences.proofs.CallOfCompare.{Compare, Tokens, passed, lends-list}
+use Rattle.differences.proofs.LentImages.{machine, OwnedImage}
 use Rattle.differences.proofs.difference.Difference as D
 use Rattle.differences.proofs.answer.Answer as N
 use Rattle.differences.proofs.answer.Answer.Laws as N′
@@ -77,10 +78,10 @@ module _ {M : Type 1} (𝓤 : URA M) (H : Heap 𝓤) (A : Atoms 𝓤) (W : Given
   Tok = Tokens κ₀ κ₁ κ₂ q₀ q₁ q₂
 
   abbrev OwnX : Fml
-  OwnX = Owned 0 κ₀ x
+  OwnX = OwnedImage 0 κ₀ x
 
   abbrev OwnY : Fml
-  OwnY = Owned 1 κ₁ y
+  OwnY = OwnedImage 1 κ₁ y
 
   abbrev Own : Fml
   Own = owns (ShrSlice (named 0) κ₀ u8 ∷ ShrSlice (named 1) κ₁ u8 ∷ MutSlice (named 2) κ₂ D.the-row ∷ []) (x, (y, (z, tt))) (vx ∷ [], (vy ∷ [], (vz ∷ [], tt)))

@@ -17,7 +17,7 @@ use denote.Steps.{nothing}
 use denote.Triple.Spec.{tripleOf}
 use denote.Triple.Statement.{Contract}
 use Rattle.differences.specs.declared.difference.Difference.{Difference}
-use Rattle.differences.proofs.Images.{machine, Owned, lends}
+use Rattle.differences.proofs.LentImages.{machine, OwnedImage, lends}
 use Rattle.differences.proofs.difference.Difference as D
 use Rattle.differences.proofs.compare.compare as compare
 
@@ -41,12 +41,12 @@ module _ {M : Type 1} (𝓤 : URA M) (H : Heap 𝓤) (A : Atoms 𝓤) (W : Given
   abbrev List⊛Tokens : Item 𝓤
   List⊛Tokens = ‵ (OwnedList κ₂ z) ⊛ Tokens κ₀ κ₁ κ₂ q₀ q₁ q₂
 
-  asked : ent 𝓤 (⋆ 𝓤 H A (List⊛Tokens ∷ ‵ (Owned 0 κ₀ x) ∷ ‵ (Owned 1 κ₁ y) ∷ [])) (Compare 𝓤 H A mem run .pre passed)
+  asked : ent 𝓤 (⋆ 𝓤 H A (List⊛Tokens ∷ ‵ (OwnedImage 0 κ₀ x) ∷ ‵ (OwnedImage 1 κ₁ y) ∷ [])) (Compare 𝓤 H A mem run .pre passed)
   asked =
-      qed W (List⊛Tokens ∷ ‵ (Owned 0 κ₀ x) ∷ ‵ (Owned 1 κ₁ y) ∷ []) ∵
+      qed W (List⊛Tokens ∷ ‵ (OwnedImage 0 κ₀ x) ∷ ‵ (OwnedImage 1 κ₁ y) ∷ []) ∵
       split ! $ nothing ! $ move ! (1 ∷ 0 ∷ []) $ fjoin ! $ move ! (3 ∷ 0 ∷ []) $ fjoin ! $ move ! (2 ∷ 0 ∷ []) $ fjoin ! $ move ! (1 ∷ 0 ∷ []) $ join ! $ frame ! $ done !
 
   -- the list goes to the callee, and what the images own is kept
-  pub lends-list : ent 𝓤 (⋆ 𝓤 H A (List⊛Tokens ∷ ‵ (Owned 0 κ₀ x) ∷ ‵ (Owned 1 κ₁ y) ∷ []))
-      (⋆ 𝓤 H A (raw (Compare 𝓤 H A mem run .pre passed) ∷ ‵ (Owned 0 κ₀ x) ∷ ‵ (Owned 1 κ₁ y) ∷ []))
+  pub lends-list : ent 𝓤 (⋆ 𝓤 H A (List⊛Tokens ∷ ‵ (OwnedImage 0 κ₀ x) ∷ ‵ (OwnedImage 1 κ₁ y) ∷ []))
+      (⋆ 𝓤 H A (raw (Compare 𝓤 H A mem run .pre passed) ∷ ‵ (OwnedImage 0 κ₀ x) ∷ ‵ (OwnedImage 1 κ₁ y) ∷ []))
   lends-list = lends 𝓤 H A W κ₀ κ₁ x y List⊛Tokens _ asked

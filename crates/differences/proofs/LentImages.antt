@@ -19,21 +19,21 @@ abbrev pub machine : {A : Type 0} → RefT (List A) → Val
 machine x = sliceVal (x .ptr) (length (x .now))
 
 -- what an image owns that is parameter `n`
-abbrev pub Owned : ℕ → Lft → RefT (List ℕ) → Fml
-Owned n κ x = ShrSlice (named n) κ u8 .own x (machine x ∷ [])
+abbrev pub OwnedImage : ℕ → Lft → RefT (List ℕ) → Fml
+OwnedImage n κ x = ShrSlice (named n) κ u8 .own x (machine x ∷ [])
 
 module _ {M : Type 1} (𝓤 : URA M) (H : Heap 𝓤) (A : Atoms 𝓤) (W : Given 𝓤 H A) where
   -- a `&[u8]` is Copy
-  twice : (n : ℕ) (κ : Lft) (x : RefT (List ℕ)) → ent 𝓤 (sem 𝓤 H A (Owned n κ x)) (⋆ 𝓤 H A (‵ (Owned n κ x) ∷ ‵ (Owned n κ x) ∷ []))
+  twice : (n : ℕ) (κ : Lft) (x : RefT (List ℕ)) → ent 𝓤 (sem 𝓤 H A (OwnedImage n κ x)) (⋆ 𝓤 H A (‵ (OwnedImage n κ x) ∷ ‵ (OwnedImage n κ x) ∷ []))
   twice n κ x = shr-slice-copy 𝓤 H A W (named n) κ u8 .twice x (machine x ∷ [])
 
   -- What a callee asks is made of what the images own and of T; what the images own is kept.
   pub lends : (κ₀ κ₁ : Lft) (x y : RefT (List ℕ)) (T : Item 𝓤) (P : SProp 𝓤)
-      → ent 𝓤 (⋆ 𝓤 H A (T ∷ ‵ (Owned 0 κ₀ x) ∷ ‵ (Owned 1 κ₁ y) ∷ [])) P
-      → ent 𝓤 (⋆ 𝓤 H A (T ∷ ‵ (Owned 0 κ₀ x) ∷ ‵ (Owned 1 κ₁ y) ∷ [])) (⋆ 𝓤 H A (raw P ∷ ‵ (Owned 0 κ₀ x) ∷ ‵ (Owned 1 κ₁ y) ∷ []))
+      → ent 𝓤 (⋆ 𝓤 H A (T ∷ ‵ (OwnedImage 0 κ₀ x) ∷ ‵ (OwnedImage 1 κ₁ y) ∷ [])) P
+      → ent 𝓤 (⋆ 𝓤 H A (T ∷ ‵ (OwnedImage 0 κ₀ x) ∷ ‵ (OwnedImage 1 κ₁ y) ∷ [])) (⋆ 𝓤 H A (raw P ∷ ‵ (OwnedImage 0 κ₀ x) ∷ ‵ (OwnedImage 1 κ₁ y) ∷ []))
   lends κ₀ κ₁ x y T P asked =
-      qed W (T ∷ ‵ (Owned 0 κ₀ x) ∷ ‵ (Owned 1 κ₁ y) ∷ []) ∵
-      move ! (1 ∷ []) $ use1 W (‵ (Owned 0 κ₀ x) ⊛ ‵ (Owned 0 κ₀ x)) (twice 0 κ₀ x) $ split ! $
-      move ! (3 ∷ []) $ use1 W (‵ (Owned 1 κ₁ y) ⊛ ‵ (Owned 1 κ₁ y)) (twice 1 κ₁ y) $ split ! $
+      qed W (T ∷ ‵ (OwnedImage 0 κ₀ x) ∷ ‵ (OwnedImage 1 κ₁ y) ∷ []) ∵
+      move ! (1 ∷ []) $ use1 W (‵ (OwnedImage 0 κ₀ x) ⊛ ‵ (OwnedImage 0 κ₀ x)) (twice 0 κ₀ x) $ split ! $
+      move ! (3 ∷ []) $ use1 W (‵ (OwnedImage 1 κ₁ y) ⊛ ‵ (OwnedImage 1 κ₁ y)) (twice 1 κ₁ y) $ split ! $
       -- [two, twice; one, twice; T]
       move ! (4 ∷ 2 ∷ 0 ∷ []) $ use3 W (raw P) asked $ move ! (0 ∷ 2 ∷ []) $ done !

@@ -1,4 +1,5 @@
 // Prints what differs between the images in two files, named as its arguments.
+#![tactic(auto)]
 ghost use Rattle.std.specs.Prelude.{take};
 ghost use Rattle.io.specs.Counts.{IsPrefixLen};
 ghost use Rattle.image_compare.specs.Arguments.{Argument, PrintsArguments};

@@ -4,6 +4,7 @@
 // some in each of the 112 records, every byte; or with a byte less, a byte more, no bytes. missing is not there, and "." is a directory.
 //
 // What has to be printed comes from an independent program, written from document 02 and sharing nothing with this code.
+#![tactic(auto)]
 use imageio::printing::print_files;
 use streams::writing::{standard_output, write};
 

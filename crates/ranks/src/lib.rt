@@ -1,4 +1,6 @@
 // The rank steps, for messages and waiters alike: a table of count records of stride bytes, each with its queue at place and its rank after it.
+#![tactic(auto)]
+
 ghost use Rattle.std.specs.Prelude.{◌≡◌, true, ◌+◌, ◌<◌, length};
 ghost use Rattle.ranks.specs.Lists.{map_with_index};
 ghost use Rattle.ranks.specs.Position.{in_queue, stands_at};

@@ -1,4 +1,5 @@
 // Replays a call log from standard input, from fresh tables, and writes its answer records to standard output.
+#![tactic(auto)]
 use fresh_tables::start::fresh;
 use logio::input::{replay_input, tell};
 

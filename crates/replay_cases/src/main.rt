@@ -16,6 +16,7 @@
 //
 // The answers and tables come from an independent program, written from documents 01 and 02 and sharing nothing with this code; the answers
 // of worked_example are the 16 bytes that document 01 prints.
+#![tactic(auto)]
 mod case; // case.rt: a case, run on the code
 
 ghost use Rattle.std.specs.Prelude.{◌≡◌, ◌+◌, ◌<◌, ◌≤◌, length};

@@ -1,4 +1,5 @@
 // Replays a call log from standard input, from fresh tables, and writes the tables after it to standard output: queues, pool, tasks.
+#![tactic(auto)]
 use fresh_tables::start::fresh;
 use logio::input::{Ending, replay_input, tell};
 use streams::writing::{standard_output, write};

@@ -1,2 +1,3 @@
 // Runs of calls: a call log replayed over the tables.
+#![tactic(auto)]
 pub mod replay; // replay.rt: a whole log

@@ -1,1 +1,2 @@
 // Theorems about calls and runs. There is no code here.
+#![tactic(auto)]

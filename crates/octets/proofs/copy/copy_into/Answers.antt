@@ -1,0 +1,36 @@
+-- `octets::copy::copy_into` meets its contract. Assumes nothing.
+use mathlib.Core.Path.{◌≡◌, refl, ap, ◌∙◌}
+use Prim.Native.Nat.{◌-◌}
+use native.Mathlib.Numerals.{add-one}
+use native.Mathlib.Omega.{arith}
+use borrow.Author.Rules.{rules}
+use lib.ListN.{length, length-set}
+use lib.Seq.{paste, paste-zero, paste-suc, take-length}
+use Rattle.ranks.specs.Table.{spliced}
+use Rattle.octets.proofs.copy.copy_into.Goals as goal
+
+pub loop-k-init : goal.loop-k-init
+loop-k-init c = (search rules, (paste-zero c.args.t.now c.args.i c.args.src.now, refl))
+
+pub overflow_add-t : goal.overflow_add-t
+overflow_add-t c = omega arith
+
+pub bounds-t-i : goal.bounds-t-i
+bounds-t-i c = omega arith
+
+pub loop-k-preserved : goal.loop-k-preserved
+loop-k-preserved c =
+    let a = c.args in
+    let v = c.loop-k in
+    (search rules, (rw (v.invariant.1.0, paste-suc a.t.now a.i a.src.now v.k 0 (omega arith) (omega arith), add-one), simp length-set v.invariant.1.1))
+
+pub shape_of-t : goal.shape_of-t
+shape_of-t c = c.loop-k.invariant.1.1
+
+pub returns : goal.returns
+unfolding spliced
+returns c =
+    let a = c.args in
+    let v = c.loop-k in
+    let e : v.k ≡ length a.src.now = omega arith in
+    v.invariant.1.0 ∙ ap (paste a.t.now a.i a.src.now) e ∙ rw (take-length a.src.now)

@@ -5,12 +5,8 @@ use Rattle.ranks.specs.Lists
 use Rattle.records.specs.Layout.{task_count}
 use Rattle.records.specs.Split
 use Rattle.records.proofs.Tabled.{agree}
-use Rattle.records.proofs.shares.share_of_task.Statement.{statement}
-use Rattle.records.proofs.shares.share_of_task.Tie as tie
+use Rattle.records.proofs.shares.share_of_task.Goals as goal
 
-returns : tie.Need-returns
+pub returns : goal.returns
 unfolding Lists.numbers_from Lists.first_true Split.share_of_task
 returns c = agree (λ i. i / 8) Split.share_of_task task_count refl c.args.task c.requires
-
-pub share-of-task-spec : {M : Type 1} → statement M
-share-of-task-spec = tie.close (tie.spec returns)

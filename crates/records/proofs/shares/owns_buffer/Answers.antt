@@ -6,12 +6,8 @@ use Rattle.ranks.specs.Lists
 use Rattle.records.specs.Layout.{buffer_count}
 use Rattle.records.specs.Split
 use Rattle.records.proofs.Tabled.{agree}
-use Rattle.records.proofs.shares.owns_buffer.Statement.{statement}
-use Rattle.records.proofs.shares.owns_buffer.Tie as tie
+use Rattle.records.proofs.shares.owns_buffer.Goals as goal
 
-returns : tie.Need-returns
+pub returns : goal.returns
 unfolding Lists.numbers_from Lists.first_true Split.share_of_buffer
 returns c = ap (eqb c.args.share) (agree (λ i. i / 16) Split.share_of_buffer buffer_count refl c.args.b c.requires)
-
-pub owns-buffer-spec : {M : Type 1} → statement M
-owns-buffer-spec = tie.close (tie.spec returns)

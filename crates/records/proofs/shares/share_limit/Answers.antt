@@ -3,12 +3,8 @@ use mathlib.Core.Path.{refl}
 use Rattle.ranks.specs.Lists
 use Rattle.records.specs.Split
 use Rattle.records.proofs.Tabled.{agree}
-use Rattle.records.proofs.shares.share_limit.Statement.{statement}
-use Rattle.records.proofs.shares.share_limit.Tie as tie
+use Rattle.records.proofs.shares.share_limit.Goals as goal
 
-returns : tie.Need-returns
+pub returns : goal.returns
 unfolding Lists.numbers_from Split.share_limit
 returns c = agree (λ i. 16) Split.share_limit Split.share_count refl c.args.share c.requires
-
-pub share-limit-spec : {M : Type 1} → statement M
-share-limit-spec = tie.close (tie.spec returns)

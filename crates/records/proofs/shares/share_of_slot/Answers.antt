@@ -5,12 +5,8 @@ use Rattle.ranks.specs.Lists
 use Rattle.records.specs.Layout.{slot_count}
 use Rattle.records.specs.Split
 use Rattle.records.proofs.Tabled.{agree}
-use Rattle.records.proofs.shares.share_of_slot.Statement.{statement}
-use Rattle.records.proofs.shares.share_of_slot.Tie as tie
+use Rattle.records.proofs.shares.share_of_slot.Goals as goal
 
-returns : tie.Need-returns
+pub returns : goal.returns
 unfolding Lists.numbers_from Lists.first_true Split.share_of_slot
 returns c = agree (λ i. i / 4) Split.share_of_slot slot_count refl c.args.slot c.requires
-
-pub share-of-slot-spec : {M : Type 1} → statement M
-share-of-slot-spec = tie.close (tie.spec returns)

@@ -1,0 +1,9 @@
+-- `records::buffer::encode_message` meets its contract. Assumes nothing.
+use mathlib.Core.Path.{◌∙◌}
+use Rattle.records.proofs.Writing
+use Rattle.records.proofs.buffer.encode_message.Goals as goal
+
+pub returns : goal.returns
+returns c =
+    let a = c.args in
+    c.copy_into.ensures ∙ Writing.message-record (record { queue = a.queue; rank = a.rank }) a.message.now

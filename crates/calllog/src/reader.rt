@@ -6,14 +6,14 @@ use crate::call::LogResult;
 use crate::decode::{decode, place_after};
 
 // "A reader holds the lent log bytes and the place reached"
-#[derive(Drop)]
+#[derive(Clone, Copy)]
 pub struct LogReader<'a> {
     pub log: &'a [u8],
     pub at: usize,
 }
 
 // What a reader yields, and the place that it moves on to.
-#[derive(Drop)]
+#[derive(Clone, Copy)]
 pub struct Reading {
     pub result: LogResult,
     pub next: usize,

@@ -12,7 +12,7 @@ use records::layout::{IMAGE_RECORD_COUNT, IMAGE_SIZE};
 use records::status::{BAD_SHAPE, SUCCESSFUL};
 
 // Whether there is an entry to store, the entry, its place in the list, the record of the images to go on with, and the answer so far.
-#[derive(Drop)]
+#[derive(Clone, Copy)]
 pub struct Comparison {
     pub more: bool,
     pub entry: Difference,

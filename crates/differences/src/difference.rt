@@ -2,7 +2,7 @@
 
 // The record's table (0 queues, 1 pool, 2 tasks) and its number there, the first place in it that differs, and how many do.
 #[repr(C)]
-#[derive(Drop)]
+#[derive(Clone, Copy)]
 pub struct Difference {
     pub table: u8,
     pub number: u8,

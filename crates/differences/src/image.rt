@@ -17,7 +17,7 @@ const POOL_TABLE_NUMBER: u8 = 1;
 const TASKS_TABLE_NUMBER: u8 = 2;
 
 // A record of an image: its table, its number there, where it starts, and how many bytes it has.
-#[derive(Drop)]
+#[derive(Clone, Copy)]
 pub struct ImageRecord {
     pub table: u8,
     pub number: u8,

@@ -18,7 +18,7 @@ pub const BLOCK: usize = BLOCK_RECORDS * RECORD_WIDTH;
 pub const ANSWERS: usize = BLOCK_RECORDS * ANSWER_WIDTH;
 
 // What became of a block of a log.
-#[derive(Drop)]
+#[derive(Clone, Copy)]
 pub struct BlockReplayed {
     pub n: usize, // bytes that were read and replayed
     pub end: usize, // bytes of their answer records, at the front of the lent ones

@@ -9,7 +9,7 @@ use streams::reading::standard_input;
 use streams::writing::{say_failed, standard_output, write_answers};
 
 // What became of a log.
-#[derive(Drop)]
+#[derive(Clone, Copy)]
 pub enum Ending {
     GoesOn, // it may have more blocks; so ends only a run of 2^64 - 1 of them, which no input has
     Complete, // it was replayed to its end

@@ -6,7 +6,6 @@ use Prim.Native.Nat.{ℕ, ◌+◌, ◌≤◌, ◌<◌}
 use mathlib.Core.Path.{◌≡◌, refl, sym, ap, ◌∙◌}
 use mathlib.Core.Bool.{Bool, true, false, not}
 use lib.ListN.{length, get_or, drop}
-use borrow.Author.Tests.{not-true, not-false}
 use Rattle.ranks.specs.Lists.{map_with_index, all_true, first_true, every, find_index}
 use Rattle.ranks.proofs.Lists.{at-mapped, length-mapped, first_more, first-here, first-none, all_more, all-stop, all_end}
 
@@ -49,12 +48,12 @@ module _ {A : Type 0} {test : ℕ → A → Bool} {l : List A} {n : ℕ} where
       search-ends h = first-none _ i below.so_far (omega (arith, below.bound, length-mapped test l))
 
     module _ {good : Bool} (below : AllBelow test l n good i) where
-      pub one-fails : {x : A} {r : Bool} → i < n → get_or l i d ≡ x → r ≡ test i x → not r ≡ true → false ≡ every test l
-      one-fails h at e p = all-stop _ i below.so_far (omega (arith, length-mapped test l)) (said test l i d (omega arith) at e (not-true _ p))
+      pub one-fails : {x : A} {r : Bool} → i < n → get_or l i d ≡ x → r ≡ test i x → r ≡ false → false ≡ every test l
+      one-fails h at e p = all-stop _ i below.so_far (omega (arith, length-mapped test l)) (said test l i d (omega arith) at e p)
 
-      pub one-more-passes : {x : A} {r : Bool} → i < n → get_or l i d ≡ x → r ≡ test i x → not r ≡ false → AllBelow test l n good (i + 1)
+      pub one-more-passes : {x : A} {r : Bool} → i < n → get_or l i d ≡ x → r ≡ test i x → r ≡ true → AllBelow test l n good (i + 1)
       one-more-passes h at e p =
-          record { bound = omega arith; answer = below.answer; so_far = all_more _ i below.so_far (omega (arith, length-mapped test l)) (said test l i d (omega arith) at e (not-false _ p)) }
+          record { bound = omega arith; answer = below.answer; so_far = all_more _ i below.so_far (omega (arith, length-mapped test l)) (said test l i d (omega arith) at e p) }
 
       pub all_pass : n ≤ i → good ≡ every test l
       all_pass h = below.answer ∙ all_end _ i below.so_far (omega (arith, below.bound, length-mapped test l))

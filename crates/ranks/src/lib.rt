@@ -8,7 +8,7 @@ ghost use Rattle.ranks.specs.Table.{records, position_in, put_position, moved, S
 ghost use Rattle.ranks.specs.Steps.{inserted, taken_out, shifted, Room, first_at};
 
 // Where a record stands: its queue (slot + 1, 0 none) and its rank there.
-#[derive(Drop)]
+#[derive(Clone, Copy)]
 pub struct Position {
     pub queue: u8,
     pub rank: u8,

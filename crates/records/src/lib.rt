@@ -1,5 +1,6 @@
 // The records of the tables, read into values and written back.
 #![tactic(auto)]
+
 pub mod buffer; // buffer.rt: buffer records
 pub mod layout; // layout.rt: the tables in numbers: records, bytes, places, shares
 pub mod queue; // queue.rt: queue records

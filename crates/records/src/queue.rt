@@ -11,7 +11,7 @@ use octets::copy::copy_into;
 use octets::numbers::{bytes_of_u16, bytes_of_u32, four_bytes, read_u16, read_u32};
 
 // A queue record, field by field.
-#[derive(Drop)]
+#[derive(Clone, Copy)]
 pub struct QueueRecord {
     pub live: u8,
     pub attributes: u8,

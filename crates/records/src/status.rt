@@ -37,7 +37,7 @@ pub const INVALID_OPTION: u8 = 15;
 pub const BAD_SHAPE: u8 = 16;
 
 // A status that refuses a call: "All but 0 and 14 are refusals", and 7 and 8 are "only written to a task".
-#[derive(Drop)]
+#[derive(Clone, Copy)]
 pub enum RefusalStatus {
     InvalidName,
     InvalidId,
@@ -77,7 +77,7 @@ impl RefusalStatus {
 }
 
 // What a list of tests says of a call.
-#[derive(Drop)]
+#[derive(Clone, Copy)]
 pub enum Verdict {
     Passed,
     Refused(RefusalStatus),

@@ -16,7 +16,7 @@ pub const READY_STATE: u8 = 0;
 pub const WAITING_STATE: u8 = 1;
 
 // What stands before a task's receive buffer, but for its zero bytes 12 to 15.
-#[derive(Drop)]
+#[derive(Clone, Copy)]
 pub struct TaskHead {
     pub state: u8,
     pub queue: u8,

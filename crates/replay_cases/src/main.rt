@@ -64,7 +64,7 @@ fn fill_front(from: Input, buffer: &mut [u8], n: usize) -> bool
 
 // ---- What was found
 
-#[derive(Drop)]
+#[derive(Clone, Copy)]
 struct Totals {
     files: u64, // logs, or files of cases
     cases: u64,
@@ -94,7 +94,7 @@ impl Totals {
 
 // ---- A log: its answers block by block, then the tables
 
-#[derive(Drop)]
+#[derive(Clone, Copy)]
 struct LogProgress {
     records: u64, // answered
     equal: bool, // all answers, so far
@@ -242,7 +242,7 @@ fn compare_log(t: Totals, name: &[u8], log: &[u8], answers: &[u8], image: &[u8])
 
 // ---- A file of cases
 
-#[derive(Drop)]
+#[derive(Clone, Copy)]
 struct CaseProgress {
     cases: u64,
     records: u64, // answered

@@ -84,16 +84,16 @@ module _ {A : Type 0} {test : ℕ → A → Bool} {position : A → Position} {x
           (table.owner j (every-at test xs d rules j h))
 
   -- where a record fails, the table does
-  pub table-fails : {r : Bool} → r ≡ every tests xs → not r ≡ true → false ≡ (every test xs && every (queue_ranked messages ps) s.queues)
+  pub table-fails : {r : Bool} → r ≡ every tests xs → r ≡ false → false ≡ (every test xs && every (queue_ranked messages ps) s.queues)
   table-fails said e =
       ⊎_elim
-      (λ t. let (a, b) = both (every test xs) (every (queue_ranked messages ps) s.queues) t in absurd (true≢false (sym (tests-pass a b) ∙ sym said ∙ not-true _ e)))
+      (λ t. let (a, b) = both (every test xs) (every (queue_ranked messages ps) s.queues) t in absurd (true≢false (sym (tests-pass a b) ∙ sym said ∙ e)))
       (λ f. sym f) (either (every test xs && every (queue_ranked messages ps) s.queues))
 
   -- where all pass, their own rules hold, their ranks are below the counts, and the ranks decide
-  module _ {r : Bool} (said : r ≡ every tests xs) (e : not r ≡ false) where
+  module _ {r : Bool} (said : r ≡ every tests xs) (e : r ≡ true) where
     each : (j : ℕ) → j < length xs → (test j (get_or xs j d) ≡ true) × (below_count messages s.queues (position (get_or xs j d)) ≡ true)
-    each j h = both _ _ (every-at tests xs d (sym said ∙ not-false _ e) j h)
+    each j h = both _ _ (every-at tests xs d (sym said ∙ e) j h)
 
     pub rules-hold : every test xs ≡ true
     rules-hold = every-from test xs d (λ j h. (each j h).0)

@@ -86,11 +86,11 @@ module _ (q p t : List ℕ) where
 
 -- ---- A search that ends at the first part that fails: what is left decides
 
-pub go_on : (bs : List Bool) {r a z : Bool} → r ≡ a → not r ≡ false → all_true (a ∷ bs) ≡ z → all_true bs ≡ z
-go_on bs e f h = sym (all_cons _ bs ∙ ap (λ (b : Bool). b && all_true bs) (sym e ∙ not-false _ f)) ∙ h
+pub go_on : (bs : List Bool) {r a z : Bool} → r ≡ a → r ≡ true → all_true (a ∷ bs) ≡ z → all_true bs ≡ z
+go_on bs e f h = sym (all_cons _ bs ∙ ap (λ (b : Bool). b && all_true bs) (sym e ∙ f)) ∙ h
 
-pub ends : (bs : List Bool) {r a z : Bool} → r ≡ a → not r ≡ true → all_true (a ∷ bs) ≡ z → false ≡ z
-ends bs e f h = sym (all_cons _ bs ∙ ap (λ (b : Bool). b && all_true bs) (sym e ∙ not-true _ f)) ∙ h
+pub ends : (bs : List Bool) {r a z : Bool} → r ≡ a → r ≡ false → all_true (a ∷ bs) ≡ z → false ≡ z
+ends bs e f h = sym (all_cons _ bs ∙ ap (λ (b : Bool). b && all_true bs) (sym e ∙ f)) ∙ h
 
 pub last : {r a z : Bool} → r ≡ a → all_true (a ∷ []) ≡ z → r ≡ z
 last {a = a} e h = e ∙ sym (all_cons a [] ∙ ap (λ (b : Bool). a && b) all_nil ∙ and-true a) ∙ h

@@ -6,7 +6,7 @@ ghost use Rattle.streams.specs.Filling.{standard_input, ReadBehind, after_read, 
 use libc::STDIN_FILENO;
 
 // A descriptor that is read.
-#[derive(Drop)]
+#[derive(Clone, Copy)]
 pub struct Input {
     pub fd: i32,
 }
@@ -18,7 +18,7 @@ pub fn standard_input() -> Input
 }
 
 // What a read comes to: so many bytes stand at the buffer's start, the input has ended, or the read failed.
-#[derive(Drop)]
+#[derive(Clone, Copy)]
 pub enum Read {
     More(usize),
     Ended,
@@ -57,7 +57,7 @@ fn read_more(from: Input, n: usize, buffer: &mut [u8]) -> Read
 }
 
 // How many bytes stand at a buffer's start, or that a read failed; then none count.
-#[derive(Drop)]
+#[derive(Clone, Copy)]
 pub struct Filled {
     pub n: usize,
     pub failed: bool,

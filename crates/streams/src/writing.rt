@@ -5,7 +5,7 @@ ghost use Rattle.streams.specs.Writing.{standard_output, Writes, WritesAnswers, 
 use libc::STDOUT_FILENO;
 
 // A descriptor that is written.
-#[derive(Drop)]
+#[derive(Clone, Copy)]
 pub struct Output {
     pub fd: i32,
 }

@@ -166,7 +166,7 @@ tick_task-confined {x} {s} p t h =
 tick_tasks-confined : {x : ℕ} {s : State} (ts : List ℕ) → Below task_count ts → Confined x s → Confined x (tick_tasks s ts)
 unfolding tick_tasks
 tick_tasks-confined [] b p = p
-tick_tasks-confined (t ∷ ts) b p = tick_tasks-confined ts b.1 (tick_task-confined p t b.0)
+tick_tasks-confined {s = s} (t ∷ ts) b p = tick_tasks-confined {s = tick_task s t} ts b.1 (tick_task-confined p t b.0)
 
 -- ---- A call that x may make, and a tick
 

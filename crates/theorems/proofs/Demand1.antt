@@ -47,6 +47,7 @@ module _ {S : Type 0} (s : S) (o : Outcome S) (ok : NotRefused o.answer) where
 
   from_first : (rs : List Refusal) (n : ℕ) → FirstThatHolds n rs → refuse_if_any s rs o ≡ refuse s n
   unfolding refuse_if_any
+  from_first [] n f = elim f [ ]
   from_first (r ∷ rs) n (here h e) = rw h (ap (refuse s) e)
   from_first (r ∷ rs) n (later h f) = rw h (from_first rs n f)
 

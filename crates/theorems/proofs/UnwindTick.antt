@@ -67,8 +67,8 @@ tick_tasks-equivalent : {x : ℕ} {s s' : State} (ts : List ℕ) → Below task_
     → Equivalent x (tick_tasks s ts) (tick_tasks s' ts)
 unfolding tick_tasks
 tick_tasks-equivalent [] b p p' e = e
-tick_tasks-equivalent (t ∷ ts) b p p' e =
-    tick_tasks-equivalent ts b.1 (tick_task-confined p t b.0) (tick_task-confined p' t b.0) (tick_task-equivalent p p' e t b.0)
+tick_tasks-equivalent {s = s} {s' = s'} (t ∷ ts) b p p' e =
+    tick_tasks-equivalent {s = tick_task s t} {s' = tick_task s' t} ts b.1 (tick_task-confined p t b.0) (tick_task-confined p' t b.0) (tick_task-equivalent p p' e t b.0)
 
 -- ---- The tick
 

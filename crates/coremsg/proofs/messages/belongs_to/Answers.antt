@@ -8,16 +8,10 @@ use lib.Dec.{eqb}
 use Rattle.ranks.proofs.Table.{byte-slice}
 use Rattle.records.specs.Layout.{buffer_position, buffer_width}
 use Rattle.records.specs.Bytes.{decode_buffer}
-use borrow.Author.Rules.{rules}
-use Rattle.coremsg.proofs.messages.belongs_to.Statement.{statement}
-use Rattle.coremsg.proofs.messages.belongs_to.Tie as tie
+use Rattle.coremsg.proofs.messages.belongs_to.Goals as goal
 
-returns : tie.Need-returns
+pub returns : goal.returns
 unfolding decode_buffer
 returns c =
-    let a = c.before.args in
+    let a = c.args in
     ap₂ {C = Bool} eqb (sym (byte-slice (a.b * buffer_width) buffer_width a.pool.now buffer_position (omega arith))) (add-one a.slot)
-
-pub belongs-to-spec : {M : Type 1} → statement M
-belongs-to-spec =
-    tie.close (tie.spec (search rules) (search rules) (search rules) (search rules) (search rules) returns)

@@ -8,19 +8,13 @@ use Rattle.ranks.proofs.Table.{byte-slice}
 use Rattle.records.specs.Layout.{buffer_position, buffer_width}
 use Rattle.records.specs.Split.{share_of_buffer}
 use Rattle.records.specs.Bytes.{decode_buffer}
-use borrow.Author.Rules.{rules}
 use Rattle.objects.proofs.Searches.{swapped}
-use Rattle.coremsg.proofs.messages.is_free.Statement.{statement}
-use Rattle.coremsg.proofs.messages.is_free.Tie as tie
+use Rattle.coremsg.proofs.messages.is_free.Goals as goal
 
-returns : tie.Need-returns
+pub returns : goal.returns
 unfolding decode_buffer
 returns c =
-    let a = c.before.before.before.args in
+    let a = c.args in
     ap₂ {C = Bool} ◌&&◌
     (ap (λ (n : ℕ). eqb n 0) (sym (byte-slice (a.b * buffer_width) buffer_width a.pool.now buffer_position (omega arith))))
-    (c.owns-buffer.ensures ∙ swapped a.share (share_of_buffer a.b))
-
-pub is-free-spec : {M : Type 1} → statement M
-is-free-spec =
-    tie.close (tie.spec (search rules) (search rules) (search rules) (search rules) returns)
+    (c.owns_buffer.ensures ∙ swapped a.share (share_of_buffer a.b))

@@ -5,16 +5,10 @@ use mathlib.Core.Path.{sym, ◌∙◌}
 use Rattle.ranks.proofs.Table.{byte-slice}
 use Rattle.records.specs.Layout.{buffer_length, buffer_width}
 use Rattle.records.specs.Bytes.{decode_buffer}
-use borrow.Author.Rules.{rules}
-use Rattle.coremsg.proofs.steps.message_size.Statement.{statement}
-use Rattle.coremsg.proofs.steps.message_size.Tie as tie
+use Rattle.coremsg.proofs.steps.message_size.Goals as goal
 
-returns : tie.Need-returns
+pub returns : goal.returns
 unfolding decode_buffer
 returns c =
-    let a = c.before.before.before.args in
+    let a = c.args in
     c.wide.ensures.0 ∙ sym (byte-slice (a.b * buffer_width) buffer_width a.pool.now buffer_length (omega arith))
-
-pub message-size-spec : {M : Type 1} → statement M
-message-size-spec =
-    tie.close (tie.spec (search rules) (search rules) (search rules) (search rules) returns)

@@ -4,15 +4,10 @@ use Rattle.records.specs.Layout.{buffer_count, buffer_position, buffer_width}
 use Rattle.records.specs.Records.{free_buffer}
 use Rattle.records.specs.Bytes.{decode_buffer}
 use Rattle.objects.proofs.Searches.{first-decoded}
-use borrow.Author.Rules.{rules}
-use Rattle.coremsg.proofs.messages.first_message.Statement.{statement}
-use Rattle.coremsg.proofs.messages.first_message.Tie as tie
+use Rattle.coremsg.proofs.messages.first_message.Goals as goal
 
-returns : tie.Need-returns
+pub returns : goal.returns
 unfolding decode_buffer
 returns c =
-    let a = c.before.before.args in
+    let a = c.args in
     c.first.ensures ∙ first-decoded decode_buffer (λ m. m.position) buffer_position buffer_count buffer_width a.slot a.pool.now free_buffer (λ r. refl)
-
-pub first-message-spec : {M : Type 1} → statement M
-first-message-spec = tie.close (tie.spec (search rules) (search rules) returns)

@@ -1,6 +1,5 @@
 -- `soundness::queues::limits_sound` meets its contract. Assumes nothing.
 use mathlib.Core.Path.{refl, sym, ap₂, ◌∙◌}
-use Prim.Native.Nat.{◌-◌}
 use native.Mathlib.Nat.{zero-add}
 use native.Mathlib.Omega.{arith}
 use lib.Dec.{leb}

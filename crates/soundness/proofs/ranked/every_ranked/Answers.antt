@@ -1,5 +1,5 @@
 -- `soundness::ranked::every_ranked` meets its contract. Assumes nothing.
-use Prim.Native.Nat.{ℕ, ◌+◌, ◌*◌, ◌<◌, ◌-◌}
+use Prim.Native.Nat.{◌+◌, ◌*◌, ◌<◌}
 use native.Mathlib.Omega.{arith}
 use mathlib.Core.Path.{◌≡◌, refl, sym, ◌∙◌}
 use lib.ListN.{length}
@@ -95,8 +95,8 @@ search-preserved c =
     let v = visited (goal.at.search-preserved c).After-held-n in
     let next = one-more-passes (free_queue 0) (length-decoded _ _ _ _) c.search.invariant v.inside v.read in
     elim c.if-is_live-n.branch [
-      then-is_live-n+else-ranks-test w ↦ answered (w.good-is ∙ w.ranks.invariant.answer) (next (sym (queue-ranked v (λ k lt. w.ranks.invariant.once k (omega (arith, w.ranks-test.false))))) refl)
-    | else-is_live-n w ↦ answered (w.good-is ∙ c.search.invariant.answer) (next (sym (queue-skipped v c.is_live.ensures w.if-is_live-n.false)) refl)
+      | then-is_live-n+else-ranks-test w ↦ answered (w.good-is ∙ w.ranks.invariant.answer) (next (sym (queue-ranked v (λ k lt. w.ranks.invariant.once k (omega (arith, w.ranks-test.false))))) refl)
+      | else-is_live-n w ↦ answered (w.good-is ∙ c.search.invariant.answer) (next (sym (queue-skipped v c.is_live.ensures w.if-is_live-n.false)) refl)
     ]
 
 pub returns-after-search : goal.returns-after-search

@@ -16,20 +16,19 @@ pub returns-then-not-each_buffer_sound : goal.returns-then-not-each_buffer_sound
 returns-then-not-each_buffer_sound c = table-fails (table (goal.at.returns-then-not-each_buffer_sound c).Start) true c.each_buffer_sound.ensures c.if-not-each_buffer_sound.true
 
 pub every_ranked-requires : goal.every_ranked-requires
-every_ranked-requires c =
+every_ranked-requires c = (
+  c.requires.0,
+  (
+    pool-shape c.args.pool.now c.requires.1,
     (
-      c.requires.0,
+      omega arith,
       (
-        pool-shape c.args.pool.now c.requires.1,
-        (
-          omega arith,
-          (
-            ranks-below (table (goal.at.every_ranked-requires c).Start) true c.each_buffer_sound.ensures c.if-not-each_buffer_sound.false,
-            messages-among c.args.queues.now c.args.pool.now c.requires.1 (rules-hold (table (goal.at.every_ranked-requires c).Start) true c.each_buffer_sound.ensures c.if-not-each_buffer_sound.false),
-          ),
-        ),
+        ranks-below (table (goal.at.every_ranked-requires c).Start) true c.each_buffer_sound.ensures c.if-not-each_buffer_sound.false,
+        messages-among c.args.queues.now c.args.pool.now c.requires.1 (rules-hold (table (goal.at.every_ranked-requires c).Start) true c.each_buffer_sound.ensures c.if-not-each_buffer_sound.false),
       ),
-    )
+    ),
+  ),
+)
 
 pub returns : goal.returns
 returns c = ranks-decide (table (goal.at.returns c).Start) true c.each_buffer_sound.ensures c.if-not-each_buffer_sound.false c.every_ranked.ensures

@@ -1,9 +1,8 @@
 -- `soundness::priorities::priorities_by_rank` meets its contract. Assumes nothing.
-use Prim.Native.Nat.{ℕ, ◌+◌, ◌<◌, ◌-◌}
+use Prim.Native.Nat.{ℕ, ◌+◌, ◌<◌}
 use native.Mathlib.Numerals.{add-one}
 use native.Mathlib.Omega.{arith}
 use mathlib.Core.Path.{◌≡◌, sym, ap, ap₂, subst, ◌∙◌}
-use mathlib.Core.Logic.{⊎_elim}
 use lib.ListN.{length, get_or, set, length-set, length-replicate}
 use Rattle.octets.specs.LittleEndian.{byte_values}
 use Rattle.records.specs.Layout.{task_count, task_width}
@@ -14,6 +13,7 @@ use Rattle.records.proofs.Writing.{at_table}
 use Rattle.soundness.specs.Parts.{PrioritiesAtRanks}
 use Rattle.soundness.proofs.Orders.{note-one, note-none}
 use borrow.Author.Rules.{rules}
+use Rattle.soundness.proofs.priorities.priorities_by_rank.Goals.{then-wide-slot, else-wide-slot}
 use Rattle.soundness.proofs.priorities.priorities_by_rank.Goals as goal
 
 pub loop-t-init : goal.loop-t-init
@@ -25,27 +25,28 @@ loop-t-preserved c =
     let ts = c.args.tasks.now in
     let read = at_table decode_task task_count task_width ts k c.loop-t-test.true (fresh_task 1) in
     let queue : (get_or (decode_tasks ts) k (fresh_task 1)).position.queue ≡ c.wide.result = ap (λ (w : Task). w.position.queue) read ∙ sym (c.wide.ensures.0 ∙ ap (λ (h : TaskHead). h.queue) c.read_head-h.ensures) in
-    ⊎_elim
-    (λ w.
-    let rank : w.1.result ≡ (get_or (decode_tasks ts) k (fresh_task 1)).position.rank = w.1.ensures.0 ∙ ap (λ (h : TaskHead). h.rank) c.read_head-h.ensures ∙ sym (ap (λ (w : Task). w.position.rank) read) in
-    let priority : c.read_head-h.result.priority ≡ (get_or (decode_tasks ts) k (fresh_task 1)).priority = ap (λ (h : TaskHead). h.priority) c.read_head-h.ensures ∙ sym (ap (λ (w : Task). w.priority) read) in
-    let inside : (get_or (decode_tasks ts) k (fresh_task 1)).position.rank < length c.loop-t.by_rank = subst (λ (n : ℕ). n < length c.loop-t.by_rank) rank (omega (arith, w.1.ensures.1, c.loop-t.invariant.1.0)) in (
-      omega (arith, c.loop-t-test.true),
-      (
-        ap length w.2 ∙ simp length-set c.loop-t.invariant.1.0,
-        subst (PrioritiesAtRanks c.args.slot (k + 1) (decode_tasks ts)) (sym (w.2 ∙ ap₂ (set c.loop-t.by_rank) rank priority))
-            (note-one ts c.args.slot c.requires.1.1 k c.loop-t.by_rank c.loop-t.invariant.1.1 c.loop-t-test.true (queue ∙ w.0.taken ∙ add-one c.args.slot) inside),
-      ),
-    ))
-    (λ w. (
-      omega (arith, c.loop-t-test.true),
-      (
-        ap length w.1 ∙ c.loop-t.invariant.1.0,
-        subst (PrioritiesAtRanks c.args.slot (k + 1) (decode_tasks ts)) (sym w.1)
-            (note-none ts c.args.slot c.requires.1.1 k c.loop-t.by_rank c.loop-t.invariant.1.1 (λ e. w.0.left (sym queue ∙ e ∙ sym (add-one c.args.slot)))),
-      ),
-    ))
-    c.if-wide-slot.branch
+    elim c.if-wide-slot.branch [
+      | then-wide-slot w ↦
+          let r = w.wide-then-wide-slot in
+          let rank : r.result ≡ (get_or (decode_tasks ts) k (fresh_task 1)).position.rank = r.ensures.0 ∙ ap (λ (h : TaskHead). h.rank) c.read_head-h.ensures ∙ sym (ap (λ (w : Task). w.position.rank) read) in
+          let priority : c.read_head-h.result.priority ≡ (get_or (decode_tasks ts) k (fresh_task 1)).priority = ap (λ (h : TaskHead). h.priority) c.read_head-h.ensures ∙ sym (ap (λ (w : Task). w.priority) read) in
+          let inside : (get_or (decode_tasks ts) k (fresh_task 1)).position.rank < length c.loop-t.by_rank = subst (λ (n : ℕ). n < length c.loop-t.by_rank) rank (omega (arith, r.ensures.1, c.loop-t.invariant.1.0)) in (
+            omega (arith, c.loop-t-test.true),
+            (
+              ap length w.by_rank-is ∙ simp length-set c.loop-t.invariant.1.0,
+              subst (PrioritiesAtRanks c.args.slot (k + 1) (decode_tasks ts)) (sym (w.by_rank-is ∙ ap₂ (set c.loop-t.by_rank) rank priority))
+                  (note-one ts c.args.slot c.requires.1.1 k c.loop-t.by_rank c.loop-t.invariant.1.1 c.loop-t-test.true (queue ∙ w.if-wide-slot.true ∙ add-one c.args.slot) inside),
+            ),
+          )
+      | else-wide-slot w ↦ (
+        omega (arith, c.loop-t-test.true),
+        (
+          ap length w.by_rank-is ∙ c.loop-t.invariant.1.0,
+          subst (PrioritiesAtRanks c.args.slot (k + 1) (decode_tasks ts)) (sym w.by_rank-is)
+              (note-none ts c.args.slot c.requires.1.1 k c.loop-t.by_rank c.loop-t.invariant.1.1 (λ e. w.if-wide-slot.false (sym queue ∙ e ∙ sym (add-one c.args.slot)))),
+        ),
+      )
+    ]
 
 pub returns : goal.returns
 returns c =

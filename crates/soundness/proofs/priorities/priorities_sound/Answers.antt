@@ -1,7 +1,6 @@
 -- `soundness::priorities::priorities_sound` meets its contract. Assumes nothing.
 use mathlib.Core.Path.{◌≡◌, subst}
 use mathlib.Core.Bool.{true, false}
-use Prim.Native.Nat.{◌-◌}
 use native.Mathlib.Omega.{arith}
 use Rattle.ranks.proofs.Searches.{all-below, one-more-passes, all_pass, one-fails}
 use Rattle.ranks.proofs.Lists.{every-at}
@@ -9,7 +8,7 @@ use Rattle.records.proofs.Writing.{length-decoded, at_table}
 use Rattle.records.specs.Layout.{slot_count, queue_width}
 use Rattle.records.specs.Records.{free_queue, Queue}
 use Rattle.records.specs.Bytes.{decode_queue, decode_queues}
-use Rattle.soundness.specs.Parts.{task_positions, queue_ranked, queue_in_order}
+use Rattle.soundness.specs.Parts.{task_positions, queue_ranked}
 use Rattle.soundness.proofs.priorities.priorities_sound.Goals as goal
 
 pub search-init : goal.search-init

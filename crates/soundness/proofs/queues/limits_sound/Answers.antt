@@ -1,21 +1,14 @@
 -- `soundness::queues::limits_sound` meets its contract. Assumes nothing.
 use mathlib.Core.Path.{refl, sym, ap₂, ◌∙◌}
-use mathlib.Core.Bool.{Bool}
-use Prim.Native.Nat.{ℕ, ◌-◌}
 use native.Mathlib.Nat.{zero-add}
 use native.Mathlib.Omega.{arith}
-use mathlib.Core.List.{List}
 use lib.Dec.{leb}
 use borrow.Author.Tests.{le-leb, lt-leb}
 use Rattle.ranks.proofs.Lists.{length-range, at-range}
-use Rattle.records.specs.Split.{share_limit, share_count}
-use Rattle.specification.specs.Sound.{limits, sound_limits}
-use Rattle.soundness.specs.Parts.{only_queues}
+use Rattle.records.specs.Split.{share_count}
+use Rattle.specification.specs.Sound.{sound_limits}
 use Rattle.ranks.proofs.Searches.{all-below, one-more-passes, all_pass, one-fails}
 use Rattle.soundness.proofs.queues.limits_sound.Goals as goal
-
-abbrev test : List ℕ → ℕ → ℕ → Bool
-test queues i share = leb (limits (only_queues queues) share) (share_limit share)
 
 pub search-init : goal.search-init
 search-init c = all-below

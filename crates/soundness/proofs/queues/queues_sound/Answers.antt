@@ -1,6 +1,5 @@
 -- `soundness::queues::queues_sound` meets its contract. Assumes nothing.
 use mathlib.Core.Path.{sym, ◌∙◌}
-use Prim.Native.Nat.{◌-◌}
 use native.Mathlib.Omega.{arith}
 use Rattle.ranks.proofs.Searches.{all-below, one-more-passes, all_pass, one-fails}
 use Rattle.records.proofs.Writing.{length-decoded, at_table}

@@ -7,7 +7,7 @@ use Rattle.specification.specs.Sound.{sound_queue}
 use Rattle.soundness.proofs.queues.queues_sound.Given as goal
 
 abbrev pub invariant-search : goal.invariant-search
-invariant-search l = AllBelow (λ l.slot q. sound_queue q) (decode_queues l.queues) slot_count l.good l.slot
+invariant-search l = AllBelow (λ slot q. sound_queue q) (decode_queues l.queues) slot_count l.good l.slot
 
 abbrev pub decreases-search : goal.decreases-search
 decreases-search l = slot_count - l.slot

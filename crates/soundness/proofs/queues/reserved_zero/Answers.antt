@@ -6,8 +6,8 @@ use Rattle.soundness.proofs.Searched.{zeros-four}
 use Rattle.soundness.proofs.queues.reserved_zero.Goals.{Start}
 use Rattle.soundness.proofs.queues.reserved_zero.Goals as goal
 
-long : (c : Start) → length c.args.t1 ≡ 4
+long : (c : Start) → length c.args.reserved ≡ 4
 long c = search rules
 
 pub returns : goal.returns
-returns c = zeros-four c.args.t1 (long (goal.at.returns c).Start)
+returns c = zeros-four c.args.reserved (long (goal.at.returns c).Start)

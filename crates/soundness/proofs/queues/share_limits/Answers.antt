@@ -1,13 +1,13 @@
 -- `soundness::queues::share_limits` meets its contract. Assumes nothing.
 use mathlib.Core.Path.{◌≡◌, sym, ap, subst, ◌∙◌}
 use mathlib.Core.Bool.{true}
-use Prim.Native.Nat.{ℕ, ◌<◌, ◌+◌, ◌-◌}
+use Prim.Native.Nat.{ℕ, ◌<◌, ◌+◌}
 use native.Mathlib.Nat.{zero-add}
 use native.Mathlib.Omega.{arith}
 use mathlib.Core.List.{List}
 use borrow.Author.Rules.{rules}
 use lib.ListN.{get_or, drop, length}
-use Rattle.ranks.specs.Lists.{map_with_index, sum_of as total}
+use Rattle.ranks.specs.Lists.{sum_of as total}
 use Rattle.ranks.proofs.Lists.{at-mapped, length-mapped, every-at}
 use Rattle.records.specs.Layout.{slot_count, queue_width}
 use Rattle.records.specs.Records.{Queue, free_queue}
@@ -15,10 +15,8 @@ use Rattle.records.specs.Bytes.{decode_queue, decode_queues, decode_queue_at}
 use Rattle.records.proofs.Writing.{at_table, length-decoded}
 use Rattle.specification.specs.Sound.{sound_queue, limits, limit_in}
 use Rattle.soundness.proofs.Searched.{sum_more, sum-end}
+use Rattle.soundness.proofs.queues.share_limits.Invariants.{parts}
 use Rattle.soundness.proofs.queues.share_limits.Goals as goal
-
-abbrev parts : ℕ → List ℕ → List ℕ
-parts share t = map_with_index (limit_in share) (decode_queues t)
 
 module _ (share : ℕ) (t : List ℕ) where
   size : length (parts share t) ≡ slot_count

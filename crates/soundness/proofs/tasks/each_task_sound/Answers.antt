@@ -1,5 +1,4 @@
 -- `soundness::tasks::each_task_sound` meets its contract. Assumes nothing.
-use Prim.Native.Nat.{◌-◌}
 use native.Mathlib.Omega.{arith}
 use Rattle.ranks.proofs.Searches.{all-below, one-more-passes, all_pass, one-fails}
 use Rattle.records.proofs.Writing.{length-decoded, at-lent}

@@ -16,20 +16,19 @@ pub returns-then-not-each_task_sound : goal.returns-then-not-each_task_sound
 returns-then-not-each_task_sound c = table-fails (table (goal.at.returns-then-not-each_task_sound c).Start) false c.each_task_sound.ensures c.if-not-each_task_sound.true
 
 pub every_ranked-requires : goal.every_ranked-requires
-every_ranked-requires c =
+every_ranked-requires c = (
+  c.requires.0,
+  (
+    tasks-shape c.args.tasks.now c.requires.1,
     (
-      c.requires.0,
+      omega arith,
       (
-        tasks-shape c.args.tasks.now c.requires.1,
-        (
-          omega arith,
-          (
-            ranks-below (table (goal.at.every_ranked-requires c).Start) false c.each_task_sound.ensures c.if-not-each_task_sound.false,
-            waiters-among c.args.queues.now c.args.tasks.now c.requires.1,
-          ),
-        ),
+        ranks-below (table (goal.at.every_ranked-requires c).Start) false c.each_task_sound.ensures c.if-not-each_task_sound.false,
+        waiters-among c.args.queues.now c.args.tasks.now c.requires.1,
       ),
-    )
+    ),
+  ),
+)
 
 pub returns : goal.returns
 returns c = ranks-decide (table (goal.at.returns c).Start) false c.each_task_sound.ensures c.if-not-each_task_sound.false c.every_ranked.ensures

@@ -1,5 +1,6 @@
 // The call log: its records, its reader and its answer records.
 #![tactic(auto)]
+
 pub mod answers; // answers.rt: answer records
 pub mod call; // call.rt: calls, and what reading a log yields
 pub mod decode; // decode.rt: what stands at a place of a log

@@ -1,7 +1,5 @@
 -- What the proofs of several functions cite, and the differences that are written out.
-pub mod CallOfCompare
 pub mod DifferenceCases
 pub mod DifferingPlaces
 pub mod Entries
-pub mod LentImages
 pub mod Storing

@@ -1,5 +1,6 @@
 // What differs between two images of the tables.
 #![tactic(auto)]
+
 pub mod answer; // answer.rt: an answer as numbers
 mod comparison; // comparison.rt: how far a comparison has come
 pub mod compare; // compare.rt: the lent list filled

@@ -2,12 +2,12 @@
 use Prim.Native.Nat.{ℕ, suc, pred, ◌+◌, ◌≤◌, ◌<◌}
 use native.Mathlib.Omega.{arith}
 use mathlib.Core.Path.{◌≡◌, refl, sym, ap, subst, ◌∙◌}
-use mathlib.Core.Bool.{Bool, true, false, ◌&&◌, not, true≢false}
+use mathlib.Core.Bool.{Bool, true, false, ◌&&◌, true≢false}
 use mathlib.Core.Logic.{⊎_elim}
 use mathlib.Core.List.{List, [], map}
 use lib.Dec.{eqb}
 use lib.ListN.{length, get_or, length-map}
-use borrow.Author.Tests.{eqb-true, eq-eqb, lt-ltb, leb-true, ltb-true, not-true, not-false}
+use borrow.Author.Tests.{eqb-true, eq-eqb, lt-ltb, leb-true, ltb-true}
 use Rattle.ranks.specs.Lists.{every, map_with_index}
 use Rattle.ranks.specs.Position.{Position, no_queue, in_queue}
 use Rattle.ranks.specs.Table.{records, position_in, Shape}

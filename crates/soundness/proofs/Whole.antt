@@ -1,10 +1,9 @@
 -- The parts of the search say together what `sound` says. Assumes nothing.
 use Prim.Native.Nat.{ℕ, ◌<◌}
 use mathlib.Core.Path.{◌≡◌, refl, sym, ap, ◌∙◌}
-use mathlib.Core.Bool.{Bool, true, false, ◌&&◌, not, and-true, and_assoc, and_comm}
+use mathlib.Core.Bool.{Bool, true, false, ◌&&◌, and-true, and_assoc, and_comm}
 use mathlib.Core.List.{List, [], ◌∷◌}
 use lib.ListN.{length, get_or}
-use borrow.Author.Tests.{not-true, not-false}
 use Rattle.ranks.specs.Lists.{◌implies◌, all_true, every}
 use Rattle.ranks.proofs.Tests.{both, and}
 use Rattle.ranks.proofs.Lists.{all_cons, all_nil, every-at, every-from, mapped-cong}

@@ -1,5 +1,6 @@
 // The soundness search: whether three tables are sound.
 #![tactic(auto)]
+
 pub mod buffers; // buffers.rt: the rules of buffers
 pub mod priorities; // priorities.rt: priorities of waiters
 pub mod queues; // queues.rt: the queues' own rules and the limits of a share

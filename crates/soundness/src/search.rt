@@ -12,7 +12,7 @@ use crate::tasks::tasks_sound;
 // The tables are sound.
 pub fn is_sound(queues: &[u8], pool: &[u8], tasks: &[u8]) -> bool
     requires { (length queues.now ≡ queues_size) × ((length pool.now ≡ pool_size) × (length tasks.now ≡ tasks_size)) }
-    ensures { result ≡ sound (decode (record { queues = queues.entry.now; pool = pool.now; tasks = tasks.now })) }
+    ensures { result ≡ sound (decode (record { queues = queues.now; pool = pool.now; tasks = tasks.now })) }
 {
     if !queues_sound(queues) {
         return false;

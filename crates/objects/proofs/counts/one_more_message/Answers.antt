@@ -1,0 +1,18 @@
+-- `objects::counts::one_more_message` meets its contract. Assumes nothing.
+use Prim.Native.Nat.{suc}
+use native.Mathlib.Omega.{arith}
+use native.Mathlib.Numerals.{add-one}
+use mathlib.Core.Path.{ap}
+use Rattle.records.specs.Records.{Queue}
+use Rattle.records.specs.Changes.{with_pending}
+use Rattle.objects.proofs.Written.{count-written}
+use Rattle.objects.proofs.counts.one_more_message.Goals as goal
+
+pub overflow_add-q : goal.overflow_add-q
+overflow_add-q c =
+    omega (arith, ap (λ (x : Queue). x.pending) c.read_queue-q.ensures, c.requires.1.1)
+
+pub returns : goal.returns
+returns c =
+    count-written c.args.queues.now _ c.args.slot c.requires.0 c.read_queue-q.result _ with_pending (λ x. suc x.pending) _ c.read_queue-q.ensures (add-one _)
+    c.with_pending.ensures c.write_queue.ensures

@@ -1,0 +1,10 @@
+-- `soundness::tasks::ready_task_sound` meets its contract. Assumes nothing.
+use Rattle.records.specs.Bytes.{decode_task}
+use Rattle.specification.specs.Sound.{task_rules, ready_task_rules}
+use Rattle.soundness.proofs.Cases.{ready-tests}
+use Rattle.soundness.proofs.tasks.ready_task_sound.Goals as goal
+
+pub returns : goal.returns
+unfolding task_rules ready_task_rules decode_task
+returns c =
+    rw c.eight_zeros.ensures (ready-tests c.args.r.now c.requires _ _ _ _ _ _)

@@ -1,5 +1,6 @@
 // The message queue manager: nine directives and the clock tick, over three lent tables.
 #![tactic(auto)]
+
 pub mod answer; // answer.rt: what a call answers
 pub mod clocktick; // clocktick.rt: the clock tick
 pub mod msgqbroadcast; // msgqbroadcast.rt: broadcast

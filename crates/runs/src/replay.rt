@@ -66,8 +66,8 @@ pub fn replay_all(
 ) -> usize
     requires { record_count (length log.now) * answer_width ≤ length answers.old }
     ensures { (result ≡ length (replayed (tables queues.old pool.old tasks.old) log.now).answers)
-        × ((record { answers = answers.exit.now; after = tables queues.new pool.new tasks.new })
-        ≡ replayed_front (tables queues.old pool.old tasks.old) log.now answers.entry.now) }
+        × ((record { answers = answers.new; after = tables queues.new pool.new tasks.new })
+        ≡ replayed_front (tables queues.old pool.old tasks.old) log.now answers.old) }
 {
     let verdict = table_refusal(queues, pool, tasks);
     let mut at = 0;

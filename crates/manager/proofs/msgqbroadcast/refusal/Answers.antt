@@ -1,0 +1,23 @@
+-- `manager::msgqbroadcast::refusal` meets its contract. Assumes nothing.
+use mathlib.Core.Path.{◌≡◌, sym, ◌∙◌}
+use mathlib.Core.Bool.{true}
+use Rattle.specification.specs.Answer.{first_status}
+use Rattle.specification.specs.Lookup.{usable_queue}
+use Rattle.manager.proofs.msgqbroadcast.refusal.Goals.{Else-not-usable}
+use Rattle.manager.proofs.msgqbroadcast.refusal.Goals as goal
+
+-- What each test that was passed says.
+is-usable : (p : Else-not-usable) → let a = p.args in usable_queue a.q a.caller a.id ≡ true
+is-usable p = sym p.usable.ensures ∙ p.if-not-usable.false
+
+pub returns-then-not-usable : goal.returns-then-not-usable
+unfolding first_status
+returns-then-not-usable c = rw (sym c.usable.ensures ∙ c.if-not-usable.true)
+
+pub returns-then-not-size_allowed : goal.returns-then-not-size_allowed
+unfolding first_status
+returns-then-not-size_allowed c = rw (is-usable (goal.at.returns-then-not-size_allowed c).Else-not-usable, sym c.size_allowed.ensures ∙ c.if-not-size_allowed.true)
+
+pub returns : goal.returns
+unfolding first_status
+returns c = rw (is-usable (goal.at.returns c).Else-not-usable, sym c.size_allowed.ensures ∙ c.if-not-size_allowed.false)

@@ -1,0 +1,34 @@
+-- `manager::msgqflush::flush` meets its contract. Assumes nothing.
+use native.Mathlib.Omega.{arith}
+use mathlib.Core.Path.{refl}
+use Rattle.records.specs.Bytes.{tables}
+use Rattle.records.proofs.Statuses.{tells}
+use Rattle.specification.specs.Call.{flush}
+use Rattle.specification.specs.Lookup.{owner_tests}
+use Rattle.manager.proofs.Outcomes.{call_facts, as-encoded}
+use Rattle.manager.proofs.OnQueue.{SameTests, refused-operation}
+use Rattle.manager.proofs.Operations.{flush-tests, flush-done}
+use Rattle.manager.proofs.msgqflush.flush.Goals.{After-read_queue-q}
+use Rattle.manager.proofs.msgqflush.flush.Goals as goal
+
+-- The tests of the queue that was read.
+tested : (p : After-read_queue-q) → SameTests (tables p.args.queues.now p.args.pool.now p.args.tasks.now) p.args.caller p.args.id flush (owner_tests p.read_queue-q.result p.args.caller p.args.id)
+tested p = flush-tests (tables p.args.queues.now p.args.pool.now p.args.tasks.now) p.args.caller p.args.id p.read_queue-q.result p.read_queue-q.ensures
+
+pub read_queue-q-requires : goal.read_queue-q-requires
+read_queue-q-requires c = (omega arith, (call_facts c.requires).queues_length)
+
+pub owner_refusal-verdict-requires : goal.owner_refusal-verdict-requires
+owner_refusal-verdict-requires c = (call_facts c.requires).caller_below
+
+pub returns-in-Refused : goal.returns-in-Refused
+returns-in-Refused c = refused-operation (tested (goal.at.returns-in-Refused c).After-read_queue-q) _ (tells c.in-Refused.is c.owner_refusal-verdict.ensures)
+
+pub remove_messages-removed-requires : goal.remove_messages-removed-requires
+remove_messages-removed-requires c = let known = call_facts c.requires in (omega arith, (known.queues_length, known.pool_length))
+
+pub returns : goal.returns
+returns c =
+    flush-done (tables c.args.queues.now c.args.pool.now c.args.tasks.now) c.args.caller c.args.id c.read_queue-q.result c.read_queue-q.ensures (tells c.in_default.is c.owner_refusal-verdict.ensures) _
+    (as-encoded c.requires _ _ _ c.remove_messages-removed.auto.queues c.remove_messages-removed.auto.pool refl (λ i. (c.type_inv.queues i).fits) (λ i. (c.type_inv.pool i).fits) (λ i. (c.type_inv.tasks i).fits))
+    c.remove_messages-removed.result c.remove_messages-removed.ensures.0 (c.remove_messages-removed.ensures.1 c.args.tasks.now)

@@ -1,0 +1,21 @@
+-- `manager::msgqident::message_queue_ident` meets its contract. Assumes nothing.
+use mathlib.Core.Path.{◌∙◌}
+use Rattle.records.specs.Bytes.{tables}
+use Rattle.specification.specs.Call.{ident}
+use Rattle.manager.proofs.Calls.{Verdicts, verdicts}
+use Rattle.manager.proofs.msgqident.message_queue_ident.Goals.{After-call_refusal-verdict}
+use Rattle.manager.proofs.msgqident.message_queue_ident.Goals as goal
+
+tested : (p : After-call_refusal-verdict)
+    → let a = p.args in Verdicts (tables a.queues.now a.pool.now a.tasks.now) a.caller (ident a.name a.share) p.call_refusal-verdict.result
+tested p = verdicts _ _ _ _ p.call_refusal-verdict.ensures
+
+pub returns-in-Refused : goal.returns-in-Refused
+returns-in-Refused c = (tested (goal.at.returns-in-Refused c).After-call_refusal-verdict).refuses _ c.in-Refused.is
+
+pub ident-requires : goal.ident-requires
+ident-requires c = (tested (goal.at.ident-requires c).After-call_refusal-verdict).may_call c.in_default.is
+
+pub returns : goal.returns
+returns c =
+    c.ident.ensures ∙ (tested (goal.at.returns c).After-call_refusal-verdict).accepts c.in_default.is

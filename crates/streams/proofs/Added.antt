@@ -7,11 +7,10 @@ use mathlib.Core.Path.{◌≡◌, ap, subst}
 use lib.Dec.{T}
 use lib.IntN.{ℤ, pos, negsuc}
 use lib.ListN.{length}
-use Rattle.libc.specs.Io.{Moved}
 use Rattle.streams.specs.declared.reading.Input.{Input}
 use Rattle.streams.specs.declared.reading.Read.{Read}
 use Rattle.streams.specs.declared.reading.Read.TheVariants.{More, Ended, Failed}
-use Rattle.streams.specs.Filling.{after_read, ReadMore}
+use Rattle.streams.specs.Filling.{Moved, after_read, ReadMore}
 
 is_more : Read → Bool
 is_more (More m) = true

@@ -2,17 +2,34 @@
 -- Exact are what an answer of the system comes to (`after_read`), and that the bytes already in the buffer stay; `Fills` says when reads with
 -- such answers go on. No contract can say which bytes the system hands over, which answer it gives, or that it was asked at all: code that
 -- made an answer up would meet `ReadMore` and `Fills` too. That `read_behind` asks the system, with that descriptor and for bytes behind
--- the first `n`, is read in its body, a line, and shown by runs.
-use Rattle.ranks.specs.Prelude.{ℕ, zero, suc, ◌+◌, ◌-◌, ◌≡◌, true, false, List, length, take}
+-- the first `n`, is read in its body and in `Source::read`, a few lines, and shown by runs.
+use Rattle.ranks.specs.Prelude.{ℕ, zero, suc, ◌+◌, ◌-◌, ◌≤◌, ◌≡◌, true, false, List, length, take}
 use Rattle.std.specs.Prelude.{ℤ, pos, negsuc}
-use Rattle.libc.specs.Io.{Moved}
+use Rattle.std.specs.Fd.{file_raw_fd}
 use Rattle.streams.specs.declared.reading.Input.{Input}
 use Rattle.streams.specs.declared.reading.Filled.{Filled}
 use Rattle.streams.specs.declared.reading.Read.{Read}
+use Rattle.streams.specs.declared.reading.Source.{Source}
+use Rattle.streams.specs.declared.reading.Source.TheVariants.{Standard, Opened, NotOpened}
 use Rattle.streams.specs.declared.reading.Read.TheVariants.{More, Ended, Failed}
 
 abbrev pub standard_input : Input
 standard_input = record { fd = pos 0 }
+
+-- The descriptor of what is read, by its number: standard input's, or a file's. Where a file could not be opened it is -1, which no file has.
+abbrev pub input_of : Source → Input
+input_of (Standard s) = standard_input
+input_of (Opened file) = record { fd = file_raw_fd file }
+input_of (NotOpened error) = record { fd = negsuc 0 }
+
+-- what a call that is handed `n` bytes may answer: -1, or how many bytes it moved, at most `n`
+abbrev pub Moved : ℕ → ℤ → Type 0
+Moved n (pos k) = k ≤ n
+Moved n (negsuc k) = k ≡ 0
+
+-- `&xs[..n]` is in bounds and has n bytes. The second part follows from the first, and spares a caller's `&buf[..n]` a proof file.
+abbrev pub IsPrefixLen : ℕ → List ℕ → Type 0
+IsPrefixLen n xs = (n ≤ length xs) × (n ≡ length (take n xs))
 
 -- `got` is an answer that the system may give to a read behind the first `n` bytes of a buffer, and the bytes already there stay.
 -- `from` names the descriptor; nothing follows from it.

@@ -2,13 +2,18 @@
 -- Exact are that all is done where nobody asks for answers (`WritesAnswers`), and which bytes the messages name. No contract can say which
 -- bytes go out, or that the system was asked at all: `Writes` and `Says` hold of any bytes, and code that wrote nothing would meet them too.
 -- They name the descriptor and the bytes of a call, so that the definitions above them say which bytes belong to it. That `write` and
--- `say_failed` ask the system, with that descriptor and those bytes, is read in their bodies, a line each, and shown by runs.
+-- `say_failed` ask the system, with that descriptor and those bytes, is read in their bodies, a few lines each, and shown by runs.
 use Rattle.ranks.specs.Prelude.{ℕ, ◌≡◌, Bool, true, false, List, [], ◌∷◌}
 use Rattle.std.specs.Prelude.{pos}
+use Rattle.std.specs.declared.rt.Stdout.{Stdout}
 use Rattle.streams.specs.declared.writing.Output.{Output}
 
 abbrev pub standard_output : Output
 standard_output = record { fd = pos 1 }
+
+-- the descriptor of what is written, by its number
+abbrev pub output_of : Stdout → Output
+output_of s = standard_output
 
 -- A write of all of `bytes`, of which `done` tells whether it was done. Nothing follows from it.
 pub data Writes (to : Output) (bytes : List ℕ) (done : Bool) : Type 0 where

@@ -1,9 +1,13 @@
 // Bytes read into a buffer until it is full.
-ghost use Rattle.std.specs.Prelude.{◌≡◌, ◌-◌, ◌≤◌, length};
-ghost use Rattle.libc.specs.Io.{Moved};
-ghost use Rattle.streams.specs.Filling.{standard_input, ReadBehind, after_read, ReadMore, Fills};
+ghost use Rattle.std.specs.Prelude.{◌≡◌, ◌-◌, ◌≤◌, length, IfOk};
+ghost use Rattle.std.specs.Io.{ReadsAtMost};
+ghost use Rattle.streams.specs.Filling.{Moved, standard_input, input_of, ReadBehind, after_read, ReadMore, Fills};
 
-use libc::STDIN_FILENO;
+use crate::system::System;
+use std::fs::File;
+use std::io;
+use std::io::Stdin;
+use std::os::fd::AsRawFd;
 
 // A descriptor that is read.
 #[derive(Clone, Copy)]
@@ -11,10 +15,63 @@ pub struct Input {
     pub fd: i32,
 }
 
-pub fn standard_input() -> Input
-    ensures { result ≡ standard_input }
+// What is read: standard input, or a file that is open until this is dropped. Where a file can't be opened every read fails.
+#[derive(Drop)]
+pub enum Source {
+    Standard(Stdin),
+    Opened(File),
+    NotOpened(io::Error),
+}
+
+pub fn standard_input(system: &System) -> Source
+    ensures { input_of result ≡ standard_input }
 {
-    Input { fd: STDIN_FILENO }
+    Source::Standard(system.stdin())
+}
+
+// Opens the file at a path, which is UTF-8 text.
+pub fn open(system: &System, path: &[u8]) -> Source {
+    match str::from_utf8(path) {
+        Ok(name) => match File::open(system.runtime(), name) {
+            Ok(file) => Source::Opened(file),
+            Err(error) => Source::NotOpened(error),
+        },
+        Err(_) => Source::NotOpened(io::Error::from(io::ErrorKind::InvalidInput)),
+    }
+}
+
+impl Source {
+    // The descriptor that is read: -1 where there is none.
+    pub fn descriptor(&self) -> Input
+        ensures { result ≡ input_of self.now }
+    {
+        match self {
+            Source::Standard(stdin) => Input {
+                fd: stdin.as_raw_fd(),
+            },
+            Source::Opened(file) => Input {
+                fd: file.as_raw_fd(),
+            },
+            Source::NotOpened(_) => Input { fd: -1 },
+        }
+    }
+
+    // One read into the buffer.
+    fn read(&self, buffer: &mut [u8]) -> io::Result<usize>
+        ensures { ReadsAtMost result buffer.new }
+    {
+        match self {
+            Source::Standard(stdin) => {
+                let mut stdin = *stdin;
+                io::Read::read(&mut stdin, buffer)
+            }
+            Source::Opened(file) => {
+                let mut file = file;
+                io::Read::read(&mut file, buffer)
+            }
+            Source::NotOpened(error) => Err(*error),
+        }
+    }
 }
 
 // What a read comes to: so many bytes stand at the buffer's start, the input has ended, or the read failed.
@@ -39,20 +96,37 @@ fn after_read(n: usize, got: isize, length: usize) -> Read
     Read::More(n + got as usize)
 }
 
-// One read behind the first n bytes of the buffer. The system's answer.
-fn read_behind(from: Input, n: usize, buffer: &mut [u8]) -> isize
-    requires { n ≤ length buffer.old }
-    ensures { ReadBehind from n buffer.old result buffer.new }
+// The system's answer to a read of at most so many bytes: how many it gave, or -1 where it failed. Then its error is kept.
+fn answer(system: &System, got: io::Result<usize>, most: usize) -> isize
+    requires { IfOk got (λ k. k ≤ most) }
+    ensures { Moved most result }
 {
-    libc::read(from.fd, &mut buffer[n..])
+    match got {
+        Ok(k) => isize::try_from(k).unwrap_or(-1),
+        Err(error) => {
+            system.keep(error);
+            -1
+        }
+    }
+}
+
+// One read behind the first n bytes of the buffer. The system's answer.
+fn read_behind(system: &System, from: &Source, n: usize, buffer: &mut [u8]) -> isize
+    requires { n ≤ length buffer.old }
+    ensures { ReadBehind (input_of from.now) n buffer.old result buffer.new }
+{
+    let room = &mut buffer[n..];
+    let most = room.len();
+    let got = from.read(room);
+    answer(system, got, most)
 }
 
 // Reads once more. What the read comes to.
-fn read_more(from: Input, n: usize, buffer: &mut [u8]) -> Read
+fn read_more(system: &System, from: &Source, n: usize, buffer: &mut [u8]) -> Read
     requires { n ≤ length buffer.old }
-    ensures { ReadMore from n buffer.old result buffer.new }
+    ensures { ReadMore (input_of from.now) n buffer.old result buffer.new }
 {
-    let got = read_behind(from, n, buffer);
+    let got = read_behind(system, from, n, buffer);
     after_read(n, got, buffer.len())
 }
 
@@ -64,12 +138,12 @@ pub struct Filled {
 }
 
 // Reads until the buffer is full, the input ends or a read fails: a pipe hands out any number of bytes at a time.
-pub fn fill(from: Input, buffer: &mut [u8]) -> Filled
-    ensures { Fills from result buffer.new 0 buffer.old × (result.n ≤ length buffer.old) }
+pub fn fill(system: &System, from: &Source, buffer: &mut [u8]) -> Filled
+    ensures { Fills (input_of from.now) result buffer.new 0 buffer.old × (result.n ≤ length buffer.old) }
 {
     let mut n = 0;
     while n < buffer.len() {
-        let read = read_more(from, n, buffer);
+        let read = read_more(system, from, n, buffer);
         match read {
             Read::More(m) => n = m,
             Read::Ended => return Filled { n, failed: false },

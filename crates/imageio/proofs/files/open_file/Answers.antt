@@ -1,0 +1,6 @@
+-- `imageio::files::open_file` meets its contract. Assumes nothing.
+use Rattle.imageio.specs.Files.{asked}
+use Rattle.imageio.proofs.files.open_file.Goals as goal
+
+pub returns : goal.returns
+returns c = asked

@@ -6,7 +6,8 @@ use mathlib.Core.Path.{◌≡◌, refl}
 use mathlib.Core.Bool.{Bool, true, false}
 use mathlib.Core.List.{List, [], ◌∷◌}
 use lib.ListN.{length, drop, length-drop}
-use Rattle.ranks.specs.Lists.{if◌then◌else◌, mask}
+use Rattle.std.specs.Prelude.{if◌then◌else◌}
+use Rattle.ranks.specs.Lists.{mask}
 use Rattle.ranks.specs.Table.{slice}
 use Rattle.records.specs.Layout.{task_count, task_width}
 use Rattle.records.specs.Records.{Task}

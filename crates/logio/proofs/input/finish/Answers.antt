@@ -1,14 +1,9 @@
 -- `logio::input::finish`. Assumes nothing.
-use mathlib.Core.Path.{sym, subst}
+use mathlib.Core.Path.{subst}
 use lib.ListN.{take}
-use lib.Seq.{length-take-le}
 use Rattle.streams.specs.declared.writing.Output.{Output}
 use Rattle.streams.specs.Writing.{WritesAnswers}
 use Rattle.logio.proofs.input.finish.Goals as goal
-
-pub slice_bounds-write_answers-end : goal.slice_bounds-write_answers-end
-slice_bounds-write_answers-end c =
-    sym (length-take-le c.args.b.end c.args.answers.now c.requires)
 
 pub returns : goal.returns
 returns c =

@@ -1,7 +1,7 @@
 -- `logio::input::turn`. Assumes nothing.
 use native.Mathlib.Omega.{arith}
 use Prim.Native.Nat.{ℕ, ◌*◌}
-use mathlib.Core.Path.{sym, ap}
+use mathlib.Core.Path.{ap}
 use lib.ListN.{replicate, length-replicate}
 use Rattle.calllog.specs.CallLog.{answer_width}
 use Rattle.runs.specs.Replay.{Replayed}
@@ -9,12 +9,6 @@ use Rattle.logio.specs.Turns.{block_records, block_bytes}
 use Rattle.logio.proofs.Blocks.{block-answers, one-turn}
 use Rattle.logio.proofs.Room.{records-room}
 use Rattle.logio.proofs.input.turn.Goals as goal
-
-pub slice_bounds-replay_block-end : goal.slice_bounds-replay_block-end
-slice_bounds-replay_block-end c = sym (length-replicate {A = ℕ} block_bytes 0)
-
-pub slice_bounds-replay_block-end-2 : goal.slice_bounds-replay_block-end-2
-slice_bounds-replay_block-end-2 c = sym (length-replicate {A = ℕ} (block_records * answer_width) 0)
 
 pub replay_block-b-requires : goal.replay_block-b-requires
 replay_block-b-requires c =

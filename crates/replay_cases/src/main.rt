@@ -254,6 +254,9 @@ fn compare_log(
         &mut tasks,
     );
     let c = compare_image(system, &image_from, &queues, &pool, &tasks);
+    drop(log_from);
+    drop(answers_from);
+    drop(image_from);
     tell_log(system, name, p, c);
     t.with(0, p.records, differing(p.equal, c.equal))
 }
@@ -439,6 +442,7 @@ fn read_cases(system: &System, from: &Source, file: &[u8]) -> CaseProgress {
 fn compare_cases(system: &System, t: Totals, name: &[u8], path: &[u8]) -> Totals {
     let from = open(system, path);
     let p = read_cases(system, &from, name);
+    drop(from);
     print(system, name);
     print(system, b": ");
     print_number(system, p.cases);

@@ -2,9 +2,9 @@
  * The message queue manager, for programs in C and C++: 32 tasks in four shares talk through 16 queues.
  * The names are those of the RTEMS Classic API.
  *
- * Link with target/staticlib/libmessage_manager.a, for x86-64, which `rt staticlib message_manager` writes. The library
- * allocates nothing, keeps no state and no pointer, and calls nothing back: all that it knows stands in what the host
- * lends to each call, three tables or two images of them.
+ * Link with crates/message_manager/out/libmessage_manager.a, for x86-64-v2 and above, which `rt lib` in
+ * crates/message_manager writes. The library allocates nothing, keeps no state and no pointer, and calls nothing back:
+ * all that it knows stands in what the host lends to each call, three tables or two images of them.
  *
  *
  * TABLES

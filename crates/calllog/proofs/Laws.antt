@@ -10,7 +10,8 @@ use lib.Dec.{eqb, leb}
 use lib.ListN.{length, get_or, take, drop, get_or-map, get_or-eq_default, length-take, length-drop}
 use lib.Seq.{drop-cons, take_all}
 use borrow.Author.Tests.{eq-eqb, ne_eqb, le-ltb, lt-ltb}
-use Rattle.ranks.specs.Lists.{if◌then◌else◌, all_true, all_zero}
+use Rattle.std.specs.Prelude.{if◌then◌else◌}
+use Rattle.ranks.specs.Lists.{all_true, all_zero}
 use Rattle.ranks.specs.Table.{slice, byte}
 use Rattle.ranks.proofs.Lists.{all_cons, all_nil, zeros-cons, zeros-nil}
 use Rattle.records.specs.Layout.{capacity}

@@ -1,6 +1,6 @@
 -- Document 01, "The call log": what the bytes of a log say.
-use Rattle.ranks.specs.Prelude.{ℕ, ◌+◌, ◌-◌, ◌*◌, ◌/◌, min, Bool, false, ◌&&◌, ◌||◌, List, [], ◌∷◌, ◌++◌, map, length, get_or, drop, replicate, eqb, leb, ltb}
-use Rattle.ranks.specs.Lists.{if◌then◌else◌, all_true, all_zero}
+use Rattle.std.specs.Prelude.{ℕ, ◌+◌, ◌-◌, ◌*◌, ◌/◌, min, Bool, false, ◌&&◌, ◌||◌, List, [], ◌∷◌, ◌++◌, map, length, get_or, drop, replicate, eqb, leb, ltb, if◌then◌else◌}
+use Rattle.ranks.specs.Lists.{all_true, all_zero}
 use Rattle.ranks.specs.Table.{slice}
 use Rattle.records.specs.Layout.{capacity}
 use Rattle.octets.specs.LittleEndian.{from_little_endian, to_little_endian}

@@ -1,5 +1,5 @@
 -- Document 01, "The call log": records written out and what each says, a log read at its places, and the answer record that the document gives.
-use Rattle.ranks.specs.Prelude.{ℕ, ◌-◌, ◌≡◌, List, [], ◌∷◌, ◌++◌, map, length, take, replicate}
+use Rattle.std.specs.Prelude.{ℕ, ◌-◌, ◌≡◌, List, [], ◌∷◌, ◌++◌, map, length, take, replicate}
 use Rattle.calllog.specs.declared.call.Directive.TheVariants.{Create, Ident, Delete, Send, Urgent, Broadcast, Receive, Pending, Flush}
 use Rattle.calllog.specs.declared.call.Call.TheVariants.{By, Tick}
 use Rattle.calllog.specs.declared.call.LogResult.{LogResult}

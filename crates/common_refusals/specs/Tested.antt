@@ -1,5 +1,5 @@
 -- The tests that every call makes first, by their verdict.
-use Rattle.ranks.specs.Prelude.{ℕ, ◌≡◌, true, false, not, List, [], ◌∷◌, ◌++◌}
+use Rattle.std.specs.Prelude.{ℕ, ◌≡◌, true, false, not, List, [], ◌∷◌, ◌++◌}
 use Rattle.records.specs.Bytes.{Tables, decode, right_lengths}
 use Rattle.records.specs.Status.{CORRUPT, BAD-CALLER, BAD-SHAPE, verdict_status}
 use Rattle.records.specs.declared.status.Verdict.{Verdict}

@@ -7,7 +7,8 @@ use mathlib.Core.List.{List, [], ◌∷◌}
 use lib.Dec.{eqb}
 use lib.ListN.{length, get_or}
 use borrow.Author.Tests.{eq-eqb, ne_eqb}
-use Rattle.ranks.specs.Lists.{if◌then◌else◌, map_from_index, map_with_index, mask}
+use Rattle.std.specs.Prelude.{if◌then◌else◌}
+use Rattle.ranks.specs.Lists.{map_from_index, map_with_index, mask}
 use Rattle.ranks.specs.Position.{Position}
 use Rattle.ranks.specs.Steps.{taken_out}
 use Rattle.ranks.specs.Table.{records, moved}

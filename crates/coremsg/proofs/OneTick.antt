@@ -4,7 +4,8 @@ use mathlib.Core.Path.{◌≡◌, refl, sym, ap, ◌∙◌, subst}
 use mathlib.Core.Bool.{Bool, true, false, ◌&&◌}
 use mathlib.Core.List.{List}
 use lib.Dec.{eqb}
-use Rattle.ranks.specs.Lists.{if◌then◌else◌, map_with_index}
+use Rattle.std.specs.Prelude.{if◌then◌else◌}
+use Rattle.ranks.specs.Lists.{map_with_index}
 use Rattle.ranks.proofs.Tests.{both}
 use Rattle.records.specs.Layout.{slot_count, task_count}
 use Rattle.records.specs.Records.{Task, State, waiting_state}

@@ -1,5 +1,5 @@
 -- Which records of which tables a step of a queue changes.
-use Rattle.ranks.specs.Prelude.{ℕ, ◌<◌, ◌≡◌, List, length}
+use Rattle.std.specs.Prelude.{ℕ, ◌<◌, ◌≡◌, List, length}
 use Rattle.records.specs.Layout.{slot_count, queues_size, buffer_count, pool_size, task_count, tasks_size}
 
 -- the queue of a slot, and a task

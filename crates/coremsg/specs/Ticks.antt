@@ -1,6 +1,5 @@
 -- What the code of a tick asks of the tables, and does to a task.
-use Rattle.ranks.specs.Prelude.{ℕ, ◌-◌, ◌≤◌, ◌<◌, ◌≡◌, true, List, length}
-use Rattle.ranks.specs.Lists.{if◌then◌else◌}
+use Rattle.std.specs.Prelude.{ℕ, ◌-◌, ◌≤◌, ◌<◌, ◌≡◌, true, List, length, if◌then◌else◌}
 use Rattle.records.specs.Layout.{slot_count, queues_size, task_count, tasks_size}
 use Rattle.records.specs.Records.{Task, is_waiting}
 use Rattle.records.specs.Bytes.{decode_task_at}

@@ -1,6 +1,6 @@
 // Messages: the buffers of a queue.
-ghost use Rattle.std.specs.Prelude.{◌≡◌, ◌<◌, length};
-ghost use Rattle.ranks.specs.Lists.{if◌then◌else◌, find_index};
+ghost use Rattle.std.specs.Prelude.{◌≡◌, ◌<◌, length, if◌then◌else◌};
+ghost use Rattle.ranks.specs.Lists.{find_index};
 ghost use Rattle.ranks.specs.Position.{in_queue};
 ghost use Rattle.ranks.specs.Steps.{record_at};
 ghost use Rattle.records.specs.Layout.{slot_count, buffer_count, pool_size};

@@ -9,7 +9,7 @@ use mathlib.Core.Logic.{inl, inr}
 use mathlib.Core.List.{List, [], ◌∷◌, ◌++◌}
 use lib.ListN.{length, get_or, drop, set, length-drop}
 use lib.Seq.{drop-cons, take-length, paste, paste-zero, paste-suc, length-paste}
-use Rattle.ranks.specs.Lists.{if◌then◌else◌}
+use Rattle.std.specs.Prelude.{if◌then◌else◌}
 use Rattle.ranks.proofs.Tests.{either}
 use Rattle.records.specs.Layout.{image_size, image_record_count}
 use Rattle.records.specs.Status.{SUCCESSFUL, BAD-SHAPE}

@@ -1,7 +1,7 @@
 -- For the code: the records of an image by their number in image order, and how far a comparison has come. A comparison holds whether there
 -- is an entry to store (`more`), that entry, its place in the list (`at`), the record to go on with (`next`), and the answer so far.
-use Rattle.ranks.specs.Prelude.{ℕ, ◌+◌, ◌-◌, ◌≡◌, List, [], ◌∷◌, map, ltb}
-use Rattle.ranks.specs.Lists.{if◌then◌else◌, keep_if, numbers_from}
+use Rattle.std.specs.Prelude.{ℕ, ◌+◌, ◌-◌, ◌≡◌, List, [], ◌∷◌, map, ltb, if◌then◌else◌}
+use Rattle.ranks.specs.Lists.{keep_if, numbers_from}
 use Rattle.records.specs.Layout.{slot_count, queue_width, buffer_count, buffer_width, task_width, queues_place, pool_place, tasks_place, image_record_count}
 use Rattle.specification.specs.Answer.{Outcome, outcome, first_status}
 use Rattle.differences.specs.Differences.{queues_table_number, pool_table_number, tasks_table_number, table_record, difference_in, differs, differences, comparable, refusals}

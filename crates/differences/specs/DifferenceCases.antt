@@ -1,5 +1,5 @@
 -- Document 02, [2]: differences written out, and where records of an image stand.
-use Rattle.ranks.specs.Prelude.{ℕ, ◌≡◌, List, [], ◌∷◌, length, take, drop, replicate, set}
+use Rattle.std.specs.Prelude.{ℕ, ◌≡◌, List, [], ◌∷◌, length, take, drop, replicate, set}
 use Rattle.records.specs.Layout.{image_size, image_record_count}
 use Rattle.records.specs.RecordCases.{zeros}
 use Rattle.records.specs.Status.{SUCCESSFUL}

@@ -1,5 +1,5 @@
 -- Document 02, [2] "Image compare": what differs between two images, what a comparison answers, and what the lent list holds afterwards.
-use Rattle.ranks.specs.Prelude.{ℕ, ◌+◌, ◌*◌, Bool, ◌&&◌, not, List, [], ◌∷◌, ◌++◌, map, length, drop, replicate, eqb, leb, ltb}
+use Rattle.std.specs.Prelude.{ℕ, ◌+◌, ◌*◌, Bool, ◌&&◌, not, List, [], ◌∷◌, ◌++◌, map, length, drop, replicate, eqb, leb, ltb}
 use Rattle.ranks.specs.Lists.{count_true, first_true, keep_if, numbers_from}
 use Rattle.ranks.specs.Table.{slice}
 use Rattle.records.specs.Layout.{slot_count, queue_width, buffer_count, buffer_width, task_count, task_width, queues_place, pool_place, tasks_place, image_size, image_record_count}

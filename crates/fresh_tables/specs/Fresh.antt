@@ -1,6 +1,5 @@
 -- Document 01, "Runs": "It starts on fresh tables." Fresh tables, made in the tables lent.
-use Rattle.ranks.specs.Prelude.{ℕ, Bool, true, false, ◌&&◌, List}
-use Rattle.ranks.specs.Lists.{if◌then◌else◌}
+use Rattle.std.specs.Prelude.{ℕ, Bool, true, false, ◌&&◌, List, if◌then◌else◌}
 use Rattle.records.specs.Bytes.{Tables, right_lengths}
 use Rattle.specification.specs.Run.{good_priorities, fresh_tables}
 

@@ -2,7 +2,7 @@
 -- What an argument is no contract can say, or that the system was asked for it: `Argument` holds of any path. It names the number of the
 -- argument, so that the definition below says which belongs to which file. That `argument` asks for it is read in its body, a line, and
 -- shown by runs.
-use Rattle.ranks.specs.Prelude.{ℕ, ◌≡◌, Bool, List, []}
+use Rattle.std.specs.Prelude.{ℕ, ◌≡◌, Bool, List, []}
 use Rattle.streams.specs.Writing.{standard_output, Writes}
 use Rattle.imageio.specs.Printed.{printed_of}
 use Rattle.imageio.specs.Files.{PrintsFiles}

@@ -1,5 +1,5 @@
 -- Document 02, [2]: whole images compared, and what is printed of them, written out.
-use Rattle.ranks.specs.Prelude.{ℕ, ◌≡◌, List, [], ◌∷◌}
+use Rattle.std.specs.Prelude.{ℕ, ◌≡◌, List, [], ◌∷◌}
 use Rattle.records.specs.Layout.{image_size}
 use Rattle.records.specs.RecordCases.{zeros}
 use Rattle.records.specs.Status.{SUCCESSFUL, BAD-SHAPE}

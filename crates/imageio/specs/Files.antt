@@ -3,7 +3,7 @@
 -- system hands over or takes, or that it was asked at all: `Opened` holds of any path. It names the path of a call, so that the definitions
 -- above it say which file belongs to it. That `open_file` asks the system for that file is read in its body and in `open` of streams, a few
 -- lines, and shown by runs.
-use Rattle.ranks.specs.Prelude.{ℕ, ◌+◌, ◌≡◌, Bool, List, take, replicate}
+use Rattle.std.specs.Prelude.{ℕ, ◌+◌, ◌≡◌, Bool, List, take, replicate}
 use Rattle.records.specs.Layout.{image_size}
 use Rattle.streams.specs.declared.reading.Input.{Input}
 use Rattle.streams.specs.declared.reading.Filled.{Filled}

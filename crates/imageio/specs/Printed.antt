@@ -1,6 +1,6 @@
 -- Document 02, [2] "Image compare": what the program prints.
-use Rattle.ranks.specs.Prelude.{ℕ, ◌+◌, ◌/◌, ◌%◌, List, [], ◌∷◌, ◌++◌, map, flatten, take, eqb, ltb}
-use Rattle.ranks.specs.Lists.{if◌then◌else◌}
+use Rattle.std.specs.Prelude.{ℕ, ◌+◌, ◌/◌, ◌%◌, List, [], ◌∷◌, ◌++◌, map, take, eqb, ltb, if◌then◌else◌}
+use mathlib.Core.List.{flatten}
 use Rattle.records.specs.Status.{SUCCESSFUL}
 use Rattle.specification.specs.Answer.{Outcome}
 use Rattle.differences.specs.Differences.{compared, blanks}

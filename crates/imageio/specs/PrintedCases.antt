@@ -1,5 +1,5 @@
 -- Document 02, [2]: lines written out, and what is printed of outcomes.
-use Rattle.ranks.specs.Prelude.{◌≡◌, [], ◌∷◌}
+use Rattle.std.specs.Prelude.{◌≡◌, [], ◌∷◌}
 use Rattle.records.specs.Status.{SUCCESSFUL, BAD-SHAPE}
 use Rattle.specification.specs.Answer.{outcome}
 use Rattle.imageio.specs.Printed.{line, printed}

@@ -1,5 +1,5 @@
 -- For the code: a text that grows at the front of a buffer.
-use Rattle.ranks.specs.Prelude.{ℕ, ◌+◌, ◌*◌, ◌≡◌, List, ◌++◌, length, take}
+use Rattle.std.specs.Prelude.{ℕ, ◌+◌, ◌*◌, ◌≡◌, List, ◌++◌, length, take}
 use Rattle.records.specs.Layout.{image_record_count}
 
 -- the most digits that a byte has, then a byte behind them, four times in a line

@@ -1,5 +1,5 @@
 -- Document 01, "The call log": what a record of a log asks of the tables, and its answer record.
-use Rattle.ranks.specs.Prelude.{ℕ, Bool, true, false, List, take}
+use Rattle.std.specs.Prelude.{ℕ, Bool, true, false, List, take}
 use Rattle.records.specs.Bytes.{Tables}
 use Rattle.records.specs.Status.{BAD-SHAPE}
 use Rattle.specification.specs.Answer.{Answer, Outcome, refuse}

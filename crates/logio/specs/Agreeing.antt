@@ -1,6 +1,5 @@
 -- How far two lists agree.
-use Rattle.ranks.specs.Prelude.{ℕ, suc, List, [], ◌∷◌, eqb}
-use Rattle.ranks.specs.Lists.{if◌then◌else◌}
+use Rattle.std.specs.Prelude.{ℕ, suc, List, [], ◌∷◌, eqb, if◌then◌else◌}
 
 -- how many entries at the front are the same in both
 unfoldable pub agreement : List ℕ → List ℕ → ℕ

@@ -2,8 +2,7 @@
 -- Exact are, by what the reads and the writes came to: that what is replayed is what was put into the blocks, all of it in order and as one
 -- log, which answers belong to which block, what becomes of the log after a block (`after_block`), and when the turns go on. No contract can
 -- say what the reads and the writes came to, or that the system was asked for them: Filling.antt and Writing.antt say where that is read.
-use Rattle.ranks.specs.Prelude.{ℕ, suc, ◌*◌, ◌≤◌, ◌≡◌, Bool, true, false, List, [], ◌++◌, length, take, ltb}
-use Rattle.ranks.specs.Lists.{if◌then◌else◌}
+use Rattle.std.specs.Prelude.{ℕ, suc, ◌*◌, ◌≤◌, ◌≡◌, Bool, true, false, List, [], ◌++◌, length, take, ltb, if◌then◌else◌}
 use Rattle.records.specs.Bytes.{Tables}
 use Rattle.calllog.specs.CallLog.{record_width, answer_width, record_count}
 use Rattle.runs.specs.Replay.{replayed, replayed_front}

@@ -7,7 +7,8 @@ use mathlib.Core.List.{List, [], ◌∷◌}
 use lib.Dec.{leb, ltb}
 use lib.ListN.{length}
 use borrow.Author.Tests.{lt-ltb, le-ltb, le-leb, leb-false, not-false}
-use Rattle.ranks.specs.Lists.{if◌then◌else◌, find_index, all_true}
+use Rattle.std.specs.Prelude.{if◌then◌else◌}
+use Rattle.ranks.specs.Lists.{find_index, all_true}
 use Rattle.ranks.specs.Steps.{record_at}
 use Rattle.records.specs.Layout.{slot_of, capacity, buffer_count, task_count}
 use Rattle.records.specs.Split.{share_of_slot}

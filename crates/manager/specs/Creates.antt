@@ -1,5 +1,5 @@
 -- What the code of create asks of the table of queues.
-use Rattle.ranks.specs.Prelude.{ℕ, ◌<◌, ◌≡◌, true, List, length}
+use Rattle.std.specs.Prelude.{ℕ, ◌<◌, ◌≡◌, true, List, length}
 use Rattle.ranks.specs.Lists.{find_index, every}
 use Rattle.records.specs.Split.{share_count}
 use Rattle.records.specs.Layout.{queues_size}

@@ -1,5 +1,5 @@
 -- The code's answers by the paper's numbers, and what the code of a directive promises.
-use Rattle.ranks.specs.Prelude.{ℕ}
+use Rattle.std.specs.Prelude.{ℕ}
 use Rattle.records.specs.Bytes.{Tables, decode}
 use Rattle.records.specs.Status.{SUCCESSFUL, WAITING, status_number}
 use Rattle.specification.specs.Answer.{Answer, Outcome, refuse_if_any}

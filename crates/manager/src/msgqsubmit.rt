@@ -1,6 +1,5 @@
 // What send and urgent share: the waiter at rank 0 gets the message, or it is held in a buffer.
-ghost use Rattle.std.specs.Prelude.{◌≡◌, ◌<◌};
-ghost use Rattle.ranks.specs.Lists.{if◌then◌else◌};
+ghost use Rattle.std.specs.Prelude.{◌≡◌, ◌<◌, if◌then◌else◌};
 ghost use Rattle.records.specs.Layout.{task_count};
 ghost use Rattle.records.specs.Bytes.{tables};
 ghost use Rattle.records.specs.Status.{verdict_status};

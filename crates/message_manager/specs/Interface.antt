@@ -1,6 +1,5 @@
 -- The C interface: what each function returns, the bytes that it leaves in the answer buffer, and the tables that it leaves.
-use Rattle.ranks.specs.Prelude.{ℕ, Bool, List, length, eqb}
-use Rattle.ranks.specs.Lists.{if◌then◌else◌}
+use Rattle.std.specs.Prelude.{ℕ, Bool, List, length, eqb, if◌then◌else◌}
 use Rattle.ranks.specs.Table.{byte}
 use Rattle.records.specs.Bytes.{Tables}
 use Rattle.records.specs.Status.{SUCCESSFUL, BAD-SHAPE}

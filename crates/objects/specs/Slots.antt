@@ -1,5 +1,5 @@
 -- What making a queue asks of its slot.
-use Rattle.ranks.specs.Prelude.{ℕ, ◌<◌, ◌≡◌, List, length}
+use Rattle.std.specs.Prelude.{ℕ, ◌<◌, ◌≡◌, List, length}
 use Rattle.records.specs.Layout.{slot_count, queues_size, last_generation}
 use Rattle.records.specs.Bytes.{decode_queue_at}
 

@@ -1,5 +1,5 @@
 -- Document 01, "Tables": "little-endian". Numbers as bytes, the lowest first.
-use Rattle.ranks.specs.Prelude.{ℕ, zero, suc, ◌+◌, ◌*◌, ◌/◌, ◌%◌, List, [], ◌∷◌}
+use Rattle.std.specs.Prelude.{ℕ, zero, suc, ◌+◌, ◌*◌, ◌/◌, ◌%◌, List, [], ◌∷◌}
 
 -- how many values a byte has
 abbrev pub byte_values : ℕ

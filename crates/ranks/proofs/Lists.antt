@@ -9,7 +9,8 @@ use lib.ListN.{length, get_or, set, drop, length-set}
 use lib.Seq.{ext_get_or, drop-cons, drop-length, get_or-set_same, get_or-set_other}
 use native.Mathlib.Numerals.{add-one}
 use mathlib.Core.Logic.{⊎_elim}
-use Rattle.ranks.specs.Lists.{if◌then◌else◌, map_from_index, map_with_index, all_true, all_zero, count_true, first_true, mask, bit, numbers_from, sum_of, minimum}
+use Rattle.std.specs.Prelude.{if◌then◌else◌}
+use Rattle.ranks.specs.Lists.{map_from_index, map_with_index, all_true, all_zero, count_true, first_true, mask, bit, numbers_from, sum_of, minimum}
 use Rattle.ranks.proofs.Tests.{same?, lt-or-ge}
 use lib.Dec.{eqb, leb, ltb}
 use borrow.Author.Tests.{leb-true, leb-false, lt-ltb, le-ltb}

@@ -2,7 +2,7 @@
 use Prim.Native.Nat.{ℕ, suc, ◌-◌, ◌≤◌, ◌<◌}
 use native.Mathlib.Omega.{arith}
 use mathlib.Core.Path.{◌≡◌, refl, sym, ap, ◌∙◌, subst}
-use mathlib.Core.Bool.{Bool, true, false, ◌&&◌}
+use mathlib.Core.Bool.{Bool, true, false, cond, ◌&&◌}
 use lib.Dec.{eqb, leb, ltb}
 use borrow.Author.Tests.{eqb-true, eqb-false, leb-true, leb-false, ltb-true, ltb-false, eq-eqb, ne_eqb}
 use Rattle.ranks.specs.Position.{Position, no_queue, position_at, in_queue}
@@ -59,7 +59,7 @@ unfolding inserted
 into t slot rank j p ne = rw (ne_eqb j t ne) (go (in_queue slot p) (leb rank p.rank) refl refl)
   where
     go : (a b : Bool) → in_queue slot p ≡ a → leb rank p.rank ≡ b
-        → In slot rank p (elim (a && b) [ true ↦ position_at slot (suc p.rank) | false ↦ p ])
+        → In slot rank p (cond (a && b) (position_at slot (suc p.rank)) p)
     go true true e f = In.behind (eqb-true _ _ e) (leb-true _ _ f) refl refl
     go true false e f = In.ahead (eqb-true _ _ e) (leb-false _ _ f) (eqb-true _ _ e) refl
     go false b e f = In.elsewhere (eqb-false _ _ e) refl

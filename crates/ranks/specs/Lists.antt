@@ -1,9 +1,5 @@
 -- Functions on lists. A table is a list of records; a test of a table is the list of what the test says of each record, in order.
-use Rattle.ranks.specs.Prelude.{ℕ, zero, suc, ◌+◌, ◌*◌, ◌/◌, ◌%◌, min, Bool, true, false, ◌&&◌, List, [], ◌∷◌, eqb, leb}
-
-infix 10 if◌then◌else◌
-abbrev pub if◌then◌else◌ : {A : Type 0} → Bool → A → A → A
-if◌then◌else◌ b x y = elim b [ true ↦ x | false ↦ y ]
+use Rattle.std.specs.Prelude.{ℕ, zero, suc, ◌+◌, ◌*◌, ◌/◌, ◌%◌, min, Bool, true, false, ◌&&◌, List, [], ◌∷◌, eqb, leb, if◌then◌else◌}
 
 -- `b` is not looked at where `a` is false
 infixr 20 ◌implies◌

@@ -1,5 +1,5 @@
 -- Where a message or a waiting task stands: its queue (slot+1, 0 none) and its rank there.
-use Rattle.ranks.specs.Prelude.{ℕ, suc, Bool, ◌&&◌, eqb}
+use Rattle.std.specs.Prelude.{ℕ, suc, Bool, ◌&&◌, eqb}
 use Rattle.ranks.specs.declared.Position.{Position as Declared}
 
 abbrev pub Position : Type 0

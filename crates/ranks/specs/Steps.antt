@@ -1,6 +1,6 @@
 -- The rank steps: insert, take out, first. Messages and waiters share them. Insert and take out say what becomes of the position of record `j`.
-use Rattle.ranks.specs.Prelude.{ℕ, suc, ◌-◌, ◌<◌, ◌≡◌, Bool, true, ◌&&◌, List, [], map, get_or, eqb, leb, ltb}
-use Rattle.ranks.specs.Lists.{if◌then◌else◌, ◌implies◌, map_with_index, count_true, every, find_index, numbers_from}
+use Rattle.std.specs.Prelude.{ℕ, suc, ◌-◌, ◌<◌, ◌≡◌, Bool, true, ◌&&◌, List, [], map, get_or, eqb, leb, ltb, if◌then◌else◌}
+use Rattle.ranks.specs.Lists.{◌implies◌, map_with_index, count_true, every, find_index, numbers_from}
 use Rattle.ranks.specs.Position.{Position, no_queue, position_at, in_queue, stands_at}
 use Rattle.ranks.specs.Table.{position_in}
 

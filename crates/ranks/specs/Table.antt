@@ -1,5 +1,5 @@
 -- A table as bytes: records of the same number of bytes, with no header. Two bytes of a record, side by side, are its position.
-use Rattle.ranks.specs.Prelude.{ℕ, zero, suc, ◌+◌, ◌*◌, ◌<◌, ◌≡◌, List, [], ◌∷◌, ◌++◌, length, take, drop, get_or, set}
+use Rattle.std.specs.Prelude.{ℕ, zero, suc, ◌+◌, ◌*◌, ◌<◌, ◌≡◌, List, [], ◌∷◌, ◌++◌, length, take, drop, get_or, set}
 use Rattle.ranks.specs.Position.{Position}
 
 -- `n` bytes from place `i` on, and the byte at place `i`

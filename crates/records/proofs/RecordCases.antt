@@ -1,5 +1,5 @@
 -- Records have the bytes that the cases name, and the bytes are read back; the share of each record; fresh tables byte by byte. Assumes nothing.
-use Rattle.ranks.specs.Prelude.{ℕ, List, [], ◌∷◌, map, replicate}
+use Rattle.std.specs.Prelude.{ℕ, List, [], ◌∷◌, map, replicate}
 use Rattle.ranks.specs.Lists.{map_from_index, map_with_index, first_true, numbers_from}
 use Rattle.ranks.specs.Table.{slice}
 use Rattle.records.specs.Split.{split, share_of_slot, share_of_buffer, share_of_task, share_limit}

@@ -9,7 +9,8 @@ use mathlib.Core.List.{List, map}
 use lib.Dec.{eqb, leb, ltb}
 use lib.ListN.{get_or}
 use borrow.Author.Tests.{leb-true, ltb-true}
-use Rattle.ranks.specs.Lists.{if◌then◌else◌, all_true, every, first_true, map_from_index, map_with_index, numbers_from}
+use Rattle.std.specs.Prelude.{if◌then◌else◌}
+use Rattle.ranks.specs.Lists.{all_true, every, first_true, map_from_index, map_with_index, numbers_from}
 use Rattle.ranks.proofs.Lists.{every-at, length-range, at-range}
 use Rattle.records.specs.Layout.{slot_count, buffer_count, task_count}
 use Rattle.records.specs.Split.{share_of_slot, share_of_buffer, share_of_task, first_buffer, share_limit, share_count}

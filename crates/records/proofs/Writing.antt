@@ -9,7 +9,8 @@ use mathlib.Core.List.{List, [], ◌∷◌, ◌++◌, map, append_assoc}
 use lib.ListN.{length, get_or, take, drop, set, replicate, length-set, length-map, length-drop, length-append}
 use lib.Seq.{get_or-set_same, get_or-set_other, set-get_or, drop-drop, take_all}
 use borrow.Author.Tests.{eq-eqb, ne_eqb}
-use Rattle.ranks.specs.Lists.{if◌then◌else◌, map_with_index}
+use Rattle.std.specs.Prelude.{if◌then◌else◌}
+use Rattle.ranks.specs.Lists.{map_with_index}
 use Rattle.ranks.specs.Position.{Position}
 use Rattle.ranks.specs.Table.{slice, byte, records, spliced, position_in, put_position, moved}
 use Rattle.ranks.proofs.Tests.{same?}

@@ -1,5 +1,6 @@
 -- Document 01, "Tables": the bytes of each record and of the tables. "Fixed-size records, no header, little-endian."
-use Rattle.ranks.specs.Prelude.{ℕ, ◌*◌, Bool, ◌&&◌, List, ◌∷◌, ◌++◌, map, flatten, length, eqb}
+use Rattle.std.specs.Prelude.{ℕ, ◌*◌, Bool, ◌&&◌, List, ◌∷◌, ◌++◌, map, length, eqb}
+use mathlib.Core.List.{flatten}
 use Rattle.ranks.specs.Table.{slice, byte, records, position_in}
 use Rattle.octets.specs.LittleEndian.{from_little_endian, to_little_endian}
 use Rattle.records.specs.Layout.{capacity, slot_count, queue_width, queues_size, buffer_count, buffer_width, buffer_position, buffer_length, buffer_data, pool_size, task_count, task_width, task_position, task_length, task_data, tasks_size}

@@ -1,6 +1,6 @@
 -- Changes to one record, and to a table.
-use Rattle.ranks.specs.Prelude.{ℕ, List, ◌++◌, length, drop, replicate, eqb}
-use Rattle.ranks.specs.Lists.{if◌then◌else◌, map_with_index}
+use Rattle.std.specs.Prelude.{ℕ, List, ◌++◌, length, drop, replicate, eqb, if◌then◌else◌}
+use Rattle.ranks.specs.Lists.{map_with_index}
 use Rattle.ranks.specs.Position.{Position, no_queue}
 use Rattle.ranks.specs.Steps.{insert_into, take_out_of}
 use Rattle.records.specs.Layout.{capacity}

@@ -1,5 +1,5 @@
 -- What a byte can hold: tables of bytes of the right lengths, and records whose fields fit the bytes they are written in.
-use Rattle.ranks.specs.Prelude.{ℕ, ◌<◌, ◌≡◌, true, List, length, get_or}
+use Rattle.std.specs.Prelude.{ℕ, ◌<◌, ◌≡◌, true, List, length, get_or}
 use Rattle.octets.specs.LittleEndian.{byte_values}
 use Rattle.records.specs.Layout.{capacity, slot_count, buffer_count, task_count}
 use Rattle.records.specs.Records.{Queue, Buffer, Task, State, queue_at, buffer_at, task_at}

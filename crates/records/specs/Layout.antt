@@ -1,6 +1,6 @@
 -- Document 01, "Tables": how many records each table has, how many bytes a record has, where its fields stand, where a table stands in an
 -- image, and what an id is.
-use Rattle.ranks.specs.Prelude.{ℕ, ◌+◌, ◌*◌, ◌/◌, ◌%◌}
+use Rattle.std.specs.Prelude.{ℕ, ◌+◌, ◌*◌, ◌/◌, ◌%◌}
 
 -- "8-127 data"; "16-135 the task's receive buffer"
 abbrev pub capacity : ℕ

@@ -1,6 +1,7 @@
 -- Document 01, "Tables": a record of each kind, free and fresh records, and changed records, each with its bytes; the share of each record;
 -- and the bytes of fresh tables.
-use Rattle.ranks.specs.Prelude.{ℕ, ◌≡◌, List, [], ◌∷◌, ◌++◌, map, flatten, replicate}
+use Rattle.std.specs.Prelude.{ℕ, ◌≡◌, List, [], ◌∷◌, ◌++◌, map, replicate}
+use mathlib.Core.List.{flatten}
 use Rattle.ranks.specs.Lists.{numbers_from}
 use Rattle.ranks.specs.Position.{position_at}
 use Rattle.records.specs.Split.{share_of_slot, share_of_buffer, share_of_task, share_limit}

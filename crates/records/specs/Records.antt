@@ -1,6 +1,6 @@
 -- Document 01, "Tables": the three tables as lists of records, with a field for each field of a record. Reserved bytes are fields too, so
 -- that bytes and records correspond whatever the bytes are.
-use Rattle.ranks.specs.Prelude.{ℕ, ◌/◌, ◌%◌, Bool, List, get_or, take, replicate, eqb, leb}
+use Rattle.std.specs.Prelude.{ℕ, ◌/◌, ◌%◌, Bool, List, get_or, take, replicate, eqb, leb}
 use Rattle.ranks.specs.Lists.{map_with_index, within}
 use Rattle.ranks.specs.Position.{Position, no_queue}
 use Rattle.records.specs.Layout.{capacity, largest_limit, slot_count, buffer_count}

@@ -1,5 +1,5 @@
 -- Document 01, "Tables": which share owns which slots, buffers and tasks. No other definition says so.
-use Rattle.ranks.specs.Prelude.{ℕ, ◌+◌, Bool, ◌&&◌, List, [], ◌∷◌, map, length, get_or, leb, ltb}
+use Rattle.std.specs.Prelude.{ℕ, ◌+◌, Bool, ◌&&◌, List, [], ◌∷◌, map, length, get_or, leb, ltb}
 use Rattle.ranks.specs.Lists.{first_true}
 
 -- `count` records from number `from` on

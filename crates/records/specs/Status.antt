@@ -1,5 +1,5 @@
 -- Document 01, "Status numbers".
-use Rattle.ranks.specs.Prelude.{ℕ}
+use Rattle.std.specs.Prelude.{ℕ}
 use Rattle.records.specs.declared.status.RefusalStatus.{RefusalStatus}
 use Rattle.records.specs.declared.status.RefusalStatus.TheVariants.{
   InvalidName,

@@ -1,5 +1,5 @@
 -- The head of a task record: what stands before its receive buffer, but for the zero bytes 12 to 15.
-use Rattle.ranks.specs.Prelude.{ℕ}
+use Rattle.std.specs.Prelude.{ℕ}
 use Rattle.records.specs.Records.{Task, ready_state, waiting_state}
 use Rattle.records.specs.Status.{SUCCESSFUL, WAITING}
 use Rattle.records.specs.declared.task.TaskHead.{TaskHead}

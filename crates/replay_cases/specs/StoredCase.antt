@@ -1,7 +1,7 @@
 -- A stored case: whether a log, replayed from the tables of an image, is answered as stored and leaves the tables as stored.
 use Rattle.octets.specs.LittleEndian.{byte_values}
 use Rattle.records.specs.Layout.{queues_size, pool_size, tasks_size, queues_place, pool_place, tasks_place}
-use Rattle.ranks.specs.Prelude.{ℕ, ◌+◌, ◌*◌, Bool, ◌&&◌, List, [], ◌∷◌, length, set, eqb}
+use Rattle.std.specs.Prelude.{ℕ, ◌+◌, ◌*◌, Bool, ◌&&◌, List, [], ◌∷◌, length, set, eqb}
 use Rattle.ranks.specs.Table.{slice}
 use Rattle.records.specs.Bytes.{Tables}
 use Rattle.calllog.specs.CallLog.{answer_width}

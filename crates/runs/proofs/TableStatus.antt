@@ -11,7 +11,8 @@ use lib.ListN.{length, take, drop, length-take, get_or-eq_default}
 use lib.Seq.{get_or-take, get_or-drop}
 use borrow.Author.Tests.{lt-ltb}
 use Rattle.octets.specs.LittleEndian.{byte_values, from_little_endian}
-use Rattle.ranks.specs.Lists.{if◌then◌else◌, all_true}
+use Rattle.std.specs.Prelude.{if◌then◌else◌}
+use Rattle.ranks.specs.Lists.{all_true}
 use Rattle.ranks.specs.Table.{slice}
 use Rattle.ranks.proofs.Tests.{lt-or-ge}
 use Rattle.records.specs.Bytes.{Tables}

@@ -1,6 +1,6 @@
 -- Document 01: demand 3, and of demand 2 that ids are distinct and no call is answered 10, for logs replayed from fresh tables; and the two logs
 -- whose answers it spells out. A call's answer is what its answer record says (`events_of`).
-use Rattle.ranks.specs.Prelude.{ℕ, ◌<◌, ◌≡◌, true, not, ◌||◌, List, [], ◌∷◌, ◌++◌, map, get_or, replicate, eqb}
+use Rattle.std.specs.Prelude.{ℕ, ◌<◌, ◌≡◌, true, not, ◌||◌, List, [], ◌∷◌, ◌++◌, map, get_or, replicate, eqb}
 use Rattle.ranks.specs.Lists.{all_true, numbers_from}
 use Rattle.records.specs.Split.{share_of_task}
 use Rattle.records.specs.Layout.{task_count, capacity}

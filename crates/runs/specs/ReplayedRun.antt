@@ -1,5 +1,5 @@
 -- Document 01, "Runs" and "The call log": a replayed log is a run of its calls. "A malformed log record is no call."
-use Rattle.ranks.specs.Prelude.{ℕ, ◌≡◌, List, [], ◌∷◌, ◌++◌, map, take, drop}
+use Rattle.std.specs.Prelude.{ℕ, ◌≡◌, List, [], ◌∷◌, ◌++◌, map, take, drop}
 use Rattle.ranks.specs.Table.{slice, byte}
 use Rattle.octets.specs.LittleEndian.{from_little_endian}
 use Rattle.records.specs.Bytes.{Tables}

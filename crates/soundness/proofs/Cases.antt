@@ -1,4 +1,5 @@
 -- The rules of one record, as the code tests them. Assumes nothing.
+use Rattle.std.specs.Prelude.{if◌then◌else◌}
 use Prim.Native.Nat.{ℕ, suc, pred, ◌+◌, ◌≤◌, ◌<◌}
 use native.Mathlib.Omega.{arith}
 use mathlib.Core.Path.{◌≡◌, refl, sym, ap, ap₂, ◌∙◌}
@@ -48,7 +49,7 @@ module _ (q : Queue) where
     limit-free : (q.live ≡ 1 → ⊥) → 0 ≡ limit_in share slot q
     limit-free ne = rw (ne_eqb q.live 1 ne) (go (eqb (share_of_slot slot) share))
       where
-        go : (b : Bool) → ◌≡◌ {A = ℕ} 0 (elim (b && false) [ true ↦ q.limit | false ↦ 0 ])
+        go : (b : Bool) → ◌≡◌ {A = ℕ} 0 (if b && false then q.limit else 0)
         go true = refl
         go false = refl
 

@@ -11,7 +11,8 @@ use lib.Dec.{eqb, ltb}
 use lib.ListN.{length, get_or, drop, get_or-eq_default}
 use lib.Seq.{drop-cons, get_or-drop}
 use borrow.Author.Tests.{eqb-true, eq-eqb, ltb-true, lt-ltb, not-false}
-use Rattle.ranks.specs.Lists.{if◌then◌else◌, ◌implies◌, count_true, every, map_with_index, numbers_from}
+use Rattle.std.specs.Prelude.{if◌then◌else◌}
+use Rattle.ranks.specs.Lists.{◌implies◌, count_true, every, map_with_index, numbers_from}
 use Rattle.ranks.specs.Position.{Position, no_queue, in_queue, stands_at}
 use Rattle.ranks.specs.Table.{records, position_in, Shape}
 use Rattle.ranks.specs.Steps.{ranked}

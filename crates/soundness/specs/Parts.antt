@@ -1,6 +1,6 @@
 -- What the parts of the search look at.
-use Rattle.ranks.specs.Prelude.{ℕ, suc, pred, ◌/◌, ◌%◌, ◌≤◌, ◌<◌, ◌≡◌, Bool, true, false, List, [], length, get_or, eqb, ltb, ◌&&◌, ◌||◌}
-use Rattle.ranks.specs.Lists.{if◌then◌else◌, ◌implies◌, map_with_index, all_true}
+use Rattle.std.specs.Prelude.{ℕ, suc, pred, ◌/◌, ◌%◌, ◌≤◌, ◌<◌, ◌≡◌, Bool, true, false, List, [], length, get_or, eqb, ltb, ◌&&◌, ◌||◌, if◌then◌else◌}
+use Rattle.ranks.specs.Lists.{◌implies◌, map_with_index, all_true}
 use Rattle.ranks.specs.Position.{Position, no_queue, in_queue}
 use Rattle.ranks.specs.Table.{records, position_in}
 use Rattle.ranks.specs.Steps.{ranked}

@@ -1,6 +1,6 @@
 // The ranks of messages and of waiters: a table of count records of stride bytes, each with its queue at place and its rank after it.
-ghost use Rattle.std.specs.Prelude.{◌≡◌, true, ℕ, ◌+◌, ◌*◌, ◌≤◌, ◌<◌, length};
-ghost use Rattle.ranks.specs.Lists.{if◌then◌else◌, every};
+ghost use Rattle.std.specs.Prelude.{◌≡◌, true, ℕ, ◌+◌, ◌*◌, ◌≤◌, ◌<◌, length, if◌then◌else◌};
+ghost use Rattle.ranks.specs.Lists.{every};
 ghost use Rattle.ranks.specs.Table.{records, position_in, Shape};
 ghost use Rattle.octets.specs.LittleEndian.{byte_values};
 ghost use Rattle.records.specs.Layout.{slot_count, queues_size};

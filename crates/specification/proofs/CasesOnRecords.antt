@@ -1,5 +1,5 @@
 -- The cases hold on records: every answer, and the bytes of the records that they name. Both groups of cases are computed. Assumes nothing.
-use Rattle.ranks.specs.Prelude.{ℕ, ◌+◌, Bool, true, ◌&&◌, List, [], ◌∷◌, ◌++◌, map, length, leb, ltb}
+use Rattle.std.specs.Prelude.{ℕ, ◌+◌, Bool, true, ◌&&◌, List, [], ◌∷◌, ◌++◌, map, length, leb, ltb}
 use Rattle.ranks.specs.Lists.{all_true}
 use Rattle.ranks.specs.Table.{slice}
 use Rattle.records.specs.Layout.{slot_count, buffer_count, task_count}

@@ -1,5 +1,5 @@
 -- A call and a run on the tables as records, which is what a call and a run on the bytes come to. Assumes nothing.
-use Rattle.ranks.specs.Prelude.{List, [], ◌∷◌, ◌++◌}
+use Rattle.std.specs.Prelude.{List, [], ◌∷◌, ◌++◌}
 use Rattle.records.specs.Records.{State}
 use Rattle.specification.specs.Answer.{Outcome, refuse_if_any}
 use Rattle.specification.specs.Call.{Call}

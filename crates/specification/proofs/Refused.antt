@@ -7,7 +7,8 @@ use mathlib.Core.List.{List, [], ◌∷◌, ◌++◌, map}
 use lib.Dec.{leb}
 use borrow.Author.Tests.{leb-true}
 use Rattle.records.specs.Status.{SUCCESSFUL}
-use Rattle.ranks.specs.Lists.{if◌then◌else◌, all_true}
+use Rattle.std.specs.Prelude.{if◌then◌else◌}
+use Rattle.ranks.specs.Lists.{all_true}
 use Rattle.ranks.proofs.Lists.{holds, held}
 use Rattle.specification.specs.Answer.{Outcome, Refusal, refuse, refuse_if_any, first_status}
 

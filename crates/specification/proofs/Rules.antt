@@ -1,4 +1,5 @@
 -- The rules of one record as facts. Assumes nothing.
+use Rattle.std.specs.Prelude.{if◌then◌else◌}
 use Prim.Native.Nat.{ℕ, suc, pred, ◌≤◌, ◌<◌}
 use native.Mathlib.Omega.{arith}
 use mathlib.Core.Path.{◌≡◌, refl, sym, ap, ◌∙◌}
@@ -111,7 +112,7 @@ pub queue-rules : (q : Queue) → sound_queue q ≡ true → Live q ⊎ Free q
 unfolding sound_queue
 queue-rules q = go (is_live q) refl
   where
-    go : (b : Bool) → is_live q ≡ b → (elim b [ true ↦ all_true (live_queue_rules q) | false ↦ all_true (free_queue_rules q) ]) ≡ true → Live q ⊎ Free q
+    go : (b : Bool) → is_live q ≡ b → (if b then all_true (live_queue_rules q) else all_true (free_queue_rules q)) ≡ true → Live q ⊎ Free q
     go true l e = inl (live-rules q (eqb-true _ _ l) e)
     go false l e = inr (free-rules q e)
 
@@ -192,7 +193,7 @@ unfolding sound_buffer free_buffer_rules
 buffer-rules s b m = go (eqb m.position.queue 0) refl
   where
     go : (t : Bool) → eqb m.position.queue 0 ≡ t
-        → (elim t [ true ↦ all_true (free_buffer_rules m) | false ↦ all_true (used_buffer_rules (queue_at s (slot_in m.position)) (slot_in m.position) b m) ]) ≡ true
+        → (if t then all_true (free_buffer_rules m) else all_true (used_buffer_rules (queue_at s (slot_in m.position)) (slot_in m.position) b m)) ≡ true
         → Unused m ⊎ Used s b m
     go true z e =
         let (h1, (h2, (h3, (h4, _)))) = holds _ e in
@@ -273,7 +274,7 @@ unfolding sound_task
 task-rules s t w e = let (r, f) = both _ _ e in go (is_waiting w) refl r f
   where
     go : (b : Bool) → is_waiting w ≡ b → all_true (task_rules w) ≡ true
-        → (elim b [ true ↦ all_true (waiting_task_rules (queue_at s (slot_in w.position)) (slot_in w.position) t w) | false ↦ all_true (ready_task_rules w) ]) ≡ true
+        → (if b then all_true (waiting_task_rules (queue_at s (slot_in w.position)) (slot_in w.position) t w) else all_true (ready_task_rules w)) ≡ true
         → Ready w ⊎ Waiting s t w
     go true z r e = inr (waiting-rules s t w r (eqb-true _ _ z) e)
     go false z r e = inl (ready-rules w r e)

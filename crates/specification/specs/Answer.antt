@@ -1,6 +1,5 @@
 -- Document 01, "Status numbers": answers, and refusals in their order.
-use Rattle.ranks.specs.Prelude.{ℕ, Bool, List, [], ◌∷◌}
-use Rattle.ranks.specs.Lists.{if◌then◌else◌}
+use Rattle.std.specs.Prelude.{ℕ, Bool, List, [], ◌∷◌, if◌then◌else◌}
 use Rattle.records.specs.Status.{SUCCESSFUL}
 
 -- "An answer is status, value (32 bits) and a woken mask, bit t for task t."

@@ -1,5 +1,5 @@
 -- Document 01: "Broadcast".
-use Rattle.ranks.specs.Prelude.{ℕ, not, List, [], ◌∷◌}
+use Rattle.std.specs.Prelude.{ℕ, not, List, [], ◌∷◌}
 use Rattle.ranks.specs.Lists.{count_true, mask}
 use Rattle.records.specs.Records.{Queue, State, size_allowed}
 use Rattle.records.specs.Changes.{change_at, with_waiters, with_message}

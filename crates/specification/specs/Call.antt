@@ -1,5 +1,5 @@
 -- Document 01, "Runs": "A call is its directive, its caller and its arguments, with a message's bytes."
-use Rattle.ranks.specs.Prelude.{ℕ, Bool, true, List, [], ◌∷◌, map, ◌&&◌, ltb}
+use Rattle.std.specs.Prelude.{ℕ, Bool, true, List, [], ◌∷◌, map, ◌&&◌, ltb}
 use Rattle.ranks.specs.Lists.{all_true}
 use Rattle.octets.specs.LittleEndian.{byte_values}
 

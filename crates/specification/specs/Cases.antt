@@ -1,7 +1,7 @@
 -- Document 01, "Cases on each side": W1 to W14 and the errors that it names, with the cases that document 02 adds, as one list. A case is a run
 -- from fresh tables: each call with the answer expected, and bytes expected in the tables after it. Further cases are data that the program
 -- replay_cases runs.
-use Rattle.ranks.specs.Prelude.{ℕ, ◌+◌, ◌*◌, List, [], ◌∷◌, ◌++◌, map, length}
+use Rattle.std.specs.Prelude.{ℕ, ◌+◌, ◌*◌, List, [], ◌∷◌, ◌++◌, map, length}
 use Rattle.ranks.specs.Lists.{numbers_from}
 use Rattle.ranks.specs.Table.{slice}
 use Rattle.records.specs.Layout.{queue_width, buffer_width, task_width}

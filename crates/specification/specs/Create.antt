@@ -1,5 +1,5 @@
 -- Document 01: "Create (name, limit, max size, attributes)".
-use Rattle.ranks.specs.Prelude.{ℕ, suc, ◌+◌, Bool, not, List, [], ◌∷◌, eqb, leb, ltb}
+use Rattle.std.specs.Prelude.{ℕ, suc, ◌+◌, Bool, not, List, [], ◌∷◌, eqb, leb, ltb}
 use Rattle.ranks.specs.Lists.{all_true, find_index}
 use Rattle.records.specs.Split.{share_of_slot, share_limit}
 use Rattle.records.specs.Layout.{slot_count, id_of, last_generation}

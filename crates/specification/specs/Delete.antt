@@ -1,5 +1,5 @@
 -- Document 01: "Delete".
-use Rattle.ranks.specs.Prelude.{ℕ, List, [], ◌∷◌}
+use Rattle.std.specs.Prelude.{ℕ, List, [], ◌∷◌}
 use Rattle.ranks.specs.Lists.{mask}
 use Rattle.records.specs.Records.{State}
 use Rattle.records.specs.Changes.{change_at, freed, ready_with}

@@ -1,5 +1,5 @@
 -- Document 01: "Flush".
-use Rattle.ranks.specs.Prelude.{ℕ, List, [], ◌∷◌}
+use Rattle.std.specs.Prelude.{ℕ, List, [], ◌∷◌}
 use Rattle.records.specs.Records.{State, queue_at}
 use Rattle.records.specs.Changes.{change_at, with_pending}
 use Rattle.records.specs.Status.{SUCCESSFUL, ILLEGAL-ON-REMOTE-OBJECT}

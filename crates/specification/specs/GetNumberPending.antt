@@ -1,5 +1,5 @@
 -- Document 01: "Pending".
-use Rattle.ranks.specs.Prelude.{ℕ}
+use Rattle.std.specs.Prelude.{ℕ}
 use Rattle.records.specs.Records.{State, queue_at}
 use Rattle.records.specs.Status.{SUCCESSFUL}
 use Rattle.specification.specs.Answer.{Outcome, outcome}

@@ -1,5 +1,5 @@
 -- Document 01: "Ident (name, share)".
-use Rattle.ranks.specs.Prelude.{ℕ, Bool, ◌||◌, List, [], ◌∷◌, eqb, leb}
+use Rattle.std.specs.Prelude.{ℕ, Bool, ◌||◌, List, [], ◌∷◌, eqb, leb}
 use Rattle.ranks.specs.Lists.{all_true, find_index}
 use Rattle.records.specs.Split.{share_count, share_of_slot, share_of_task}
 use Rattle.records.specs.Layout.{slot_count, id_of}

@@ -1,6 +1,6 @@
 -- What the directives ask of the tables, and how a task leaves a queue.
-use Rattle.ranks.specs.Prelude.{ℕ, ◌-◌, Bool, ◌||◌, not, List, [], ◌∷◌, eqb, ltb}
-use Rattle.ranks.specs.Lists.{if◌then◌else◌, map_with_index, all_true}
+use Rattle.std.specs.Prelude.{ℕ, ◌-◌, Bool, ◌||◌, not, List, [], ◌∷◌, eqb, ltb, if◌then◌else◌}
+use Rattle.ranks.specs.Lists.{map_with_index, all_true}
 use Rattle.ranks.specs.Position.{in_queue}
 use Rattle.ranks.specs.Steps.{record_at}
 use Rattle.records.specs.Split.{share_of_slot, share_of_task}

@@ -1,6 +1,6 @@
 -- Document 01: "Receive (option 0 wait, 1 no wait; ticks)".
-use Rattle.ranks.specs.Prelude.{ℕ, suc, ◌-◌, ◌&&◌, not, List, [], ◌∷◌, eqb, leb, ltb}
-use Rattle.ranks.specs.Lists.{if◌then◌else◌, map_with_index, minimum}
+use Rattle.std.specs.Prelude.{ℕ, suc, ◌-◌, ◌&&◌, not, List, [], ◌∷◌, eqb, leb, ltb, if◌then◌else◌}
+use Rattle.ranks.specs.Lists.{map_with_index, minimum}
 use Rattle.ranks.specs.Position.{position_at, in_queue}
 use Rattle.records.specs.Layout.{buffer_count}
 use Rattle.records.specs.Records.{Queue, Task, State, has_priority, message_in, free_buffer, queue_at, buffer_at, task_at}

@@ -1,5 +1,5 @@
 -- Document 01, "Runs": "A run is a list of any length, empty too, of ticks and of calls of the nine directives."
-use Rattle.ranks.specs.Prelude.{ℕ, Bool, ◌&&◌, List, [], ◌∷◌, length, eqb}
+use Rattle.std.specs.Prelude.{ℕ, Bool, ◌&&◌, List, [], ◌∷◌, length, eqb}
 use Rattle.ranks.specs.Lists.{every, within}
 use Rattle.records.specs.Layout.{task_count}
 use Rattle.records.specs.Records.{fresh}

@@ -1,6 +1,6 @@
 -- Document 01, "Sound tables", rule by rule. "Tables are sound exactly if all of this holds."
-use Rattle.ranks.specs.Prelude.{ℕ, pred, Bool, ◌&&◌, ◌||◌, List, [], ◌∷◌, eqb, leb, ltb, drop}
-use Rattle.ranks.specs.Lists.{if◌then◌else◌, ◌implies◌, map_with_index, all_true, every, sum_of, all_zero, numbers_from}
+use Rattle.std.specs.Prelude.{ℕ, pred, Bool, ◌&&◌, ◌||◌, List, [], ◌∷◌, eqb, leb, ltb, drop, if◌then◌else◌}
+use Rattle.ranks.specs.Lists.{◌implies◌, map_with_index, all_true, every, sum_of, all_zero, numbers_from}
 use Rattle.ranks.specs.Position.{Position, in_queue}
 use Rattle.ranks.specs.Steps.{ranked}
 use Rattle.records.specs.Split.{share_count, share_of_slot, share_of_buffer, share_of_task, share_limit}

@@ -1,5 +1,5 @@
 -- One call on the byte tables: the refusals in their order, then the effect.
-use Rattle.ranks.specs.Prelude.{ℕ, Bool, not, ◌||◌, List, [], ◌∷◌, ◌++◌, leb}
+use Rattle.std.specs.Prelude.{ℕ, Bool, not, ◌||◌, List, [], ◌∷◌, ◌++◌, leb}
 use Rattle.records.specs.Split.{share_of_task}
 use Rattle.records.specs.Layout.{task_count, slot_of}
 use Rattle.records.specs.Records.{State, is_waiting, task_at}

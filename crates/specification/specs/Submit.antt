@@ -1,7 +1,7 @@
 -- What send and urgent share. Document 01: "2, 3 (size 0 or above max), then the waiter at rank 0 if any [...]. Else 5 if full, 13, else the
 -- lowest free buffer of the owner's share". Document 02 [1] overrules "size 0": "Size 0 is now good for send, urgent and broadcast".
-use Rattle.ranks.specs.Prelude.{ℕ, suc, Bool, ◌&&◌, not, List, [], ◌∷◌, length, eqb, leb}
-use Rattle.ranks.specs.Lists.{if◌then◌else◌, map_with_index, find_index, mask}
+use Rattle.std.specs.Prelude.{ℕ, suc, Bool, ◌&&◌, not, List, [], ◌∷◌, length, eqb, leb, if◌then◌else◌}
+use Rattle.ranks.specs.Lists.{map_with_index, find_index, mask}
 use Rattle.ranks.specs.Position.{position_at}
 use Rattle.records.specs.Split.{share_of_slot, share_of_buffer}
 use Rattle.records.specs.Layout.{buffer_count, task_count}

@@ -1,6 +1,6 @@
 -- Document 01: "Tick".
-use Rattle.ranks.specs.Prelude.{ℕ, ◌-◌, Bool, ◌&&◌, List, [], ◌∷◌, eqb, leb}
-use Rattle.ranks.specs.Lists.{if◌then◌else◌, map_with_index, count_true, mask, numbers_from}
+use Rattle.std.specs.Prelude.{ℕ, ◌-◌, Bool, ◌&&◌, List, [], ◌∷◌, eqb, leb, if◌then◌else◌}
+use Rattle.ranks.specs.Lists.{map_with_index, count_true, mask, numbers_from}
 use Rattle.records.specs.Layout.{task_count}
 use Rattle.records.specs.Records.{Task, State, waiting_state, task_at}
 use Rattle.records.specs.Changes.{change_at, with_ticks, ready_with}

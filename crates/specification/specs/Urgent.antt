@@ -1,5 +1,5 @@
 -- Document 01: "urgent".
-use Rattle.ranks.specs.Prelude.{ℕ, List}
+use Rattle.std.specs.Prelude.{ℕ, List}
 use Rattle.records.specs.Records.{State}
 use Rattle.specification.specs.Answer.{Outcome, Refusal}
 use Rattle.specification.specs.Submit

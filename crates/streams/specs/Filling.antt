@@ -3,8 +3,7 @@
 -- such answers go on. No contract can say which bytes the system hands over, which answer it gives, or that it was asked at all: code that
 -- made an answer up would meet `ReadMore` and `Fills` too. That `read_behind` asks the system, with that descriptor and for bytes behind
 -- the first `n`, is read in its body and in `Source::read`, a few lines, and shown by runs.
-use Rattle.ranks.specs.Prelude.{ℕ, zero, suc, ◌+◌, ◌-◌, ◌≤◌, ◌≡◌, true, false, List, length, take}
-use Rattle.std.specs.Prelude.{ℤ, pos, negsuc}
+use Rattle.std.specs.Prelude.{ℕ, zero, suc, ◌+◌, ◌-◌, ◌≤◌, ◌≡◌, true, false, List, length, take, ℤ, pos, negsuc}
 use Rattle.std.specs.Fd.{file_raw_fd}
 use Rattle.streams.specs.declared.reading.Input.{Input}
 use Rattle.streams.specs.declared.reading.Filled.{Filled}

@@ -3,8 +3,7 @@
 -- bytes go out, or that the system was asked at all: `Writes` and `Says` hold of any bytes, and code that wrote nothing would meet them too.
 -- They name the descriptor and the bytes of a call, so that the definitions above them say which bytes belong to it. That `write` and
 -- `say_failed` ask the system, with that descriptor and those bytes, is read in their bodies, a few lines each, and shown by runs.
-use Rattle.ranks.specs.Prelude.{ℕ, ◌≡◌, Bool, true, false, List, [], ◌∷◌}
-use Rattle.std.specs.Prelude.{pos}
+use Rattle.std.specs.Prelude.{ℕ, ◌≡◌, Bool, true, false, List, [], ◌∷◌, pos}
 use Rattle.std.specs.declared.rt.Stdout.{Stdout}
 use Rattle.streams.specs.declared.writing.Output.{Output}
 

@@ -7,7 +7,8 @@ use mathlib.Core.Bool.{Bool, true, false}
 use mathlib.Core.List.{List, [], ◌∷◌}
 use lib.ListN.{length}
 use borrow.Author.Tests.{ltb-true}
-use Rattle.ranks.specs.Lists.{if◌then◌else◌, map_with_index, mask, count_true}
+use Rattle.std.specs.Prelude.{if◌then◌else◌}
+use Rattle.ranks.specs.Lists.{map_with_index, mask, count_true}
 use Rattle.ranks.specs.Position.{in_queue}
 use Rattle.records.specs.Split.{share_of_task}
 use Rattle.records.specs.Layout.{slot_of, id_of, slot_count, task_count}

@@ -8,7 +8,8 @@ use mathlib.Core.List.{List, [], ◌∷◌}
 use lib.Dec.{leb}
 use lib.ListN.{get_or}
 use borrow.Author.Tests.{eqb-true, leb-false, not-true}
-use Rattle.ranks.specs.Lists.{if◌then◌else◌, map_with_index, numbers_from, within}
+use Rattle.std.specs.Prelude.{if◌then◌else◌}
+use Rattle.ranks.specs.Lists.{map_with_index, numbers_from, within}
 use Rattle.ranks.specs.Position.{Position, no_queue}
 use Rattle.records.specs.Layout.{slot_of, task_count, slot_count}
 use Rattle.records.specs.Split.{share_of_slot, share_of_task}

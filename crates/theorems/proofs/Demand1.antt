@@ -5,7 +5,8 @@ use mathlib.Core.Path.{◌≡◌, refl, sym, ap, ◌∙◌, subst}
 use mathlib.Core.Bool.{Bool, true, false, not, true≢false, false≢true}
 use mathlib.Core.Logic.{◌⊎◌, inl, inr, ⊎_elim}
 use mathlib.Core.List.{List, [], ◌∷◌, ◌++◌, map}
-use Rattle.ranks.specs.Lists.{if◌then◌else◌, all_true}
+use Rattle.std.specs.Prelude.{if◌then◌else◌}
+use Rattle.ranks.specs.Lists.{all_true}
 use Rattle.records.specs.Layout.{slot_of}
 use Rattle.records.specs.Records.{State}
 use Rattle.records.specs.Bytes.{Tables, decode, right_lengths}

@@ -7,7 +7,8 @@ use mathlib.Core.List.{List, [], ◌∷◌, map}
 use lib.Dec.{eqb, ltb}
 use lib.ListN.{length, get_or, take, drop, replicate, length-append, length-drop, length-take}
 use borrow.Author.Tests.{ltb-true}
-use Rattle.ranks.specs.Lists.{if◌then◌else◌, map_with_index, all_true, numbers_from}
+use Rattle.std.specs.Prelude.{if◌then◌else◌}
+use Rattle.ranks.specs.Lists.{map_with_index, all_true, numbers_from}
 use Rattle.ranks.specs.Position.{Position, in_queue}
 use Rattle.records.specs.Split.{share_of_task}
 use Rattle.octets.specs.LittleEndian.{byte_values}

@@ -8,7 +8,8 @@ use mathlib.Core.List.{List, [], ◌∷◌}
 use lib.Dec.{eqb}
 use lib.ListN.{length, get_or}
 use borrow.Author.Tests.{eqb-true}
-use Rattle.ranks.specs.Lists.{if◌then◌else◌, map_with_index, bit, mask}
+use Rattle.std.specs.Prelude.{if◌then◌else◌}
+use Rattle.ranks.specs.Lists.{map_with_index, bit, mask}
 use Rattle.ranks.specs.Position.{Position}
 use Rattle.records.specs.Layout.{slot_count, buffer_count, task_count}
 use Rattle.records.specs.Split.{share_of_slot, share_of_buffer, share_of_task}

@@ -7,7 +7,8 @@ use mathlib.Core.Bool.{Bool, true, false, not, ◌&&◌}
 use mathlib.Core.List.{List, [], ◌∷◌, ◌++◌}
 use lib.Dec.{eqb}
 use borrow.Author.Tests.{ne_eqb}
-use Rattle.ranks.specs.Lists.{if◌then◌else◌, map_with_index, numbers_from}
+use Rattle.std.specs.Prelude.{if◌then◌else◌}
+use Rattle.ranks.specs.Lists.{map_with_index, numbers_from}
 use Rattle.records.specs.Split.{share_of_task}
 use Rattle.records.specs.Layout.{slot_of, generation_of, id_of, slot_count, task_count}
 use Rattle.records.specs.Status.{SUCCESSFUL}

@@ -7,7 +7,8 @@ use mathlib.Core.Logic.{◌⊎◌, inl, inr, ⊎_elim}
 use lib.Dec.{eqb}
 use borrow.Author.Tests.{eq-eqb, ne_eqb}
 use Rattle.records.specs.Layout.{slot_count, task_count}
-use Rattle.ranks.specs.Lists.{if◌then◌else◌, all_true, sum_of}
+use Rattle.std.specs.Prelude.{if◌then◌else◌}
+use Rattle.ranks.specs.Lists.{all_true, sum_of}
 use Rattle.records.specs.Split.{share_of_slot, share_of_task}
 use Rattle.ranks.specs.Position.{Position}
 use Rattle.records.specs.Records.{Queue, Buffer, Task, State, queue_at, task_at, free_queue}

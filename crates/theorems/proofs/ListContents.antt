@@ -9,7 +9,8 @@ use mathlib.Core.List.{List, [], ◌∷◌, map}
 use lib.Dec.{eqb}
 use lib.ListN.{length, get_or, length-map}
 use borrow.Author.Tests.{eqb-true, eqb-false, eq-eqb}
-use Rattle.ranks.specs.Lists.{if◌then◌else◌, map_with_index, find_index, mask, numbers_from}
+use Rattle.std.specs.Prelude.{if◌then◌else◌}
+use Rattle.ranks.specs.Lists.{map_with_index, find_index, mask, numbers_from}
 use Rattle.ranks.specs.Position.{Position, in_queue}
 use Rattle.ranks.specs.Steps.{by_rank}
 use Rattle.records.specs.Layout.{slot_count, buffer_count, task_count}

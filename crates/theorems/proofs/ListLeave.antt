@@ -7,7 +7,8 @@ use mathlib.Core.Logic.{⊎_elim}
 use mathlib.Core.List.{List, ◌∷◌}
 use lib.Dec.{eqb}
 use borrow.Author.Tests.{ne_eqb}
-use Rattle.ranks.specs.Lists.{if◌then◌else◌, keep_if}
+use Rattle.std.specs.Prelude.{if◌then◌else◌}
+use Rattle.ranks.specs.Lists.{keep_if}
 use Rattle.ranks.specs.Position.{no_queue}
 use Rattle.ranks.specs.Steps.{taken_out, by_rank}
 use Rattle.records.specs.Layout.{slot_count, task_count}

@@ -10,7 +10,7 @@ use lib.Dec.{eqb}
 use lib.ListN.{length, get_or, take, drop, length-take, drop_of_length-le}
 use lib.Seq.{take_all}
 use borrow.Author.Tests.{ltb-true, ltb-false, lt-ltb, le-ltb}
-use Rattle.ranks.specs.Lists.{if◌then◌else◌}
+use Rattle.std.specs.Prelude.{if◌then◌else◌}
 use Rattle.ranks.specs.Position.{Position, no_queue, position_at}
 use Rattle.ranks.specs.Steps.{inserted, taken_out, by_rank}
 use Rattle.records.specs.Layout.{slot_count, buffer_count, task_count, capacity}

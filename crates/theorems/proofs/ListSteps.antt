@@ -8,7 +8,8 @@ use mathlib.Core.List.{List, [], ◌∷◌, ◌++◌, map}
 use lib.Dec.{eqb}
 use lib.ListN.{length, get_or, take, drop, length-map}
 use borrow.Author.Tests.{eq-eqb, ne_eqb}
-use Rattle.ranks.specs.Lists.{if◌then◌else◌, map_with_index, numbers_from}
+use Rattle.std.specs.Prelude.{if◌then◌else◌}
+use Rattle.ranks.specs.Lists.{map_with_index, numbers_from}
 use Rattle.ranks.specs.Position.{Position, no_queue, in_queue}
 use Rattle.ranks.specs.Steps.{inserted, taken_out, by_rank}
 use Rattle.ranks.proofs.Lists.{at-mapped, is_mapped, length-range, at-range}

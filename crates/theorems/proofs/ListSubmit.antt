@@ -9,7 +9,7 @@ use lib.Dec.{eqb}
 use lib.ListN.{get_or, take, drop}
 use lib.Seq.{take-append_seam}
 use borrow.Author.Tests.{ltb-true, ltb-false}
-use Rattle.ranks.specs.Lists.{if◌then◌else◌}
+use Rattle.std.specs.Prelude.{if◌then◌else◌}
 use Rattle.ranks.specs.Position.{Position, position_at}
 use Rattle.ranks.specs.Steps.{inserted, by_rank}
 use Rattle.records.specs.Layout.{slot_count, buffer_count, task_count}

@@ -9,7 +9,8 @@ use mathlib.Core.List.{List, [], ◌∷◌, map}
 use lib.Dec.{eqb}
 use lib.ListN.{length}
 use borrow.Author.Tests.{eqb-true, ne_eqb}
-use Rattle.ranks.specs.Lists.{if◌then◌else◌, map_with_index, count_true, keep_if, numbers_from}
+use Rattle.std.specs.Prelude.{if◌then◌else◌}
+use Rattle.ranks.specs.Lists.{map_with_index, count_true, keep_if, numbers_from}
 use Rattle.records.specs.Layout.{slot_count, task_count}
 use Rattle.records.specs.Records.{Queue, Task, State, queue_at, task_at, fresh_task}
 use Rattle.records.specs.Changes.{at_index, with_waiters, move_task, with_ticks, ready_with}
@@ -200,7 +201,7 @@ module _ (f : ℕ → Bool) where
   count-filter (x ∷ l) = go (f x) (count-filter l)
     where
       go : (b : Bool) → count_true (map f l) ≡ length (keep_if f l)
-          → (if b then suc (count_true (map f l)) else count_true (map f l)) ≡ length (if b then x ∷ keep_if f l else keep_if f l)
+          → (elim b [ true ↦ suc (count_true (map f l)) | false ↦ count_true (map f l) ]) ≡ length {A = ℕ} (elim b [ true ↦ x ∷ keep_if f l | false ↦ keep_if f l ])
       go true ih = ap suc ih
       go false ih = ih
 
@@ -210,7 +211,7 @@ module _ (f : ℕ → Bool) where
   in-filter (x ∷ l) k = go (f x) (eqb k x) refl refl (in-filter l k)
     where
       go : (b c : Bool) → f x ≡ b → eqb k x ≡ c → member k (keep_if f l) ≡ member k l && f k
-          → member k (if b then x ∷ keep_if f l else keep_if f l) ≡ (c || member k l) && f k
+          → member k (elim b [ true ↦ x ∷ keep_if f l | false ↦ keep_if f l ]) ≡ (c || member k l) && f k
       go true true e q ih = ap (λ (b : Bool). b || member k (keep_if f l)) q ∙ sym (ap f (eqb-true k x q) ∙ e)
       go true false e q ih = ap (λ (b : Bool). b || member k (keep_if f l)) q ∙ ih
       go false true e q ih =

@@ -6,7 +6,8 @@ use mathlib.Core.Logic.{⊎_elim}
 use mathlib.Core.List.{List}
 use lib.Dec.{eqb, ltb}
 use borrow.Author.Tests.{eqb-true, eq-eqb, ne_eqb, ltb-true, lt-ltb}
-use Rattle.ranks.specs.Lists.{if◌then◌else◌, map_with_index, bit, mask}
+use Rattle.std.specs.Prelude.{if◌then◌else◌}
+use Rattle.ranks.specs.Lists.{map_with_index, bit, mask}
 use Rattle.ranks.specs.Position.{Position, in_queue}
 use Rattle.records.specs.Layout.{slot_of, task_count, slot_count, buffer_count}
 use Rattle.records.specs.Split.{share_of_slot, share_of_buffer, share_of_task}

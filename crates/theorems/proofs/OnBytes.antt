@@ -6,7 +6,8 @@ use mathlib.Core.Bool.{Bool, true, false, false≢true}
 use mathlib.Core.List.{List, [], ◌∷◌, ◌++◌, map, flatten}
 use lib.ListN.{length}
 use borrow.Author.Tests.{eq-eqb}
-use Rattle.ranks.specs.Lists.{if◌then◌else◌, all_true}
+use Rattle.std.specs.Prelude.{if◌then◌else◌}
+use Rattle.ranks.specs.Lists.{all_true}
 use Rattle.ranks.specs.Table.{slice, records}
 use Rattle.records.specs.Layout.{queue_width, buffer_count, buffer_width, task_count, task_width, slot_count}
 use Rattle.records.specs.Records.{State, queue_at, buffer_at, task_at, free_queue, free_buffer, fresh_task}

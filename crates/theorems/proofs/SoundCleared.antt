@@ -7,7 +7,8 @@ use mathlib.Core.Logic.{◌⊎◌, inl, inr, ⊎_elim}
 use mathlib.Core.List.{List}
 use lib.ListN.{length, get_or}
 use borrow.Author.Tests.{eqb-true, eqb-false}
-use Rattle.ranks.specs.Lists.{if◌then◌else◌, map_with_index, all_zero}
+use Rattle.std.specs.Prelude.{if◌then◌else◌}
+use Rattle.ranks.specs.Lists.{map_with_index, all_zero}
 use Rattle.records.specs.Layout.{capacity, slot_count, buffer_count, task_count}
 use Rattle.ranks.specs.Position.{Position, no_queue, in_queue}
 use Rattle.records.specs.Records.{size_allowed, Queue, Buffer, Task, State, queue_at, buffer_at, task_at, free_buffer, fresh_task}

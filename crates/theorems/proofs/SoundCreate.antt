@@ -9,7 +9,8 @@ use mathlib.Core.List.{[], ◌∷◌}
 use lib.Dec.{eqb, ltb}
 use lib.ListN.{length, get_or}
 use borrow.Author.Tests.{eqb-true, eq-eqb, ne_eqb, ltb-true}
-use Rattle.ranks.specs.Lists.{if◌then◌else◌, map_with_index, all_true, all_zero}
+use Rattle.std.specs.Prelude.{if◌then◌else◌}
+use Rattle.ranks.specs.Lists.{map_with_index, all_true, all_zero}
 use Rattle.records.specs.Layout.{largest_limit, capacity, slot_count, task_count, last_generation}
 use Rattle.records.specs.Split.{share_count, share_of_slot, share_limit}
 use Rattle.records.specs.Records.{Queue, State, queue_at, task_at, free_queue, has_priority, is_live}

@@ -7,7 +7,8 @@ use mathlib.Core.List.{List}
 use lib.Dec.{eqb}
 use lib.ListN.{length, drop, replicate}
 use lib.Seq.{drop-append_seam}
-use Rattle.ranks.specs.Lists.{if◌then◌else◌, all_zero}
+use Rattle.std.specs.Prelude.{if◌then◌else◌}
+use Rattle.ranks.specs.Lists.{all_zero}
 use Rattle.records.specs.Layout.{slot_count, buffer_count, capacity}
 use Rattle.records.specs.Split.{share_of_slot, share_of_buffer}
 use Rattle.ranks.specs.Position.{Position, position_at}

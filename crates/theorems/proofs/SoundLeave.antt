@@ -5,7 +5,7 @@ use mathlib.Core.Path.{◌≡◌, refl, sym, ap, ◌∙◌, subst}
 use mathlib.Core.Bool.{true}
 use mathlib.Core.Logic.{inl, inr, ⊎_elim}
 use lib.Dec.{eqb}
-use Rattle.ranks.specs.Lists.{if◌then◌else◌}
+use Rattle.std.specs.Prelude.{if◌then◌else◌}
 use Rattle.ranks.specs.Position.{Position, no_queue}
 use Rattle.records.specs.Layout.{slot_count, task_count}
 use Rattle.records.specs.Records.{Queue, Task, State, queue_at, buffer_at, task_at, has_priority}

@@ -8,7 +8,8 @@ use mathlib.Core.List.{List}
 use lib.Dec.{eqb, ltb}
 use lib.ListN.{length, get_or, take, length-take}
 use borrow.Author.Tests.{eqb-true, eqb-false, eq-eqb, ltb-true, ltb-false}
-use Rattle.ranks.specs.Lists.{if◌then◌else◌, map_with_index, minimum}
+use Rattle.std.specs.Prelude.{if◌then◌else◌}
+use Rattle.ranks.specs.Lists.{map_with_index, minimum}
 use Rattle.records.specs.Layout.{capacity, slot_count, buffer_count, task_count}
 use Rattle.ranks.specs.Position.{Position, in_queue}
 use Rattle.records.specs.Records.{Queue, Buffer, Task, State, queue_at, buffer_at, task_at, free_buffer, fresh_task, has_priority, is_waiting, waiting_state}

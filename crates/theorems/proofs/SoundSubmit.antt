@@ -8,7 +8,8 @@ use mathlib.Core.List.{List}
 use lib.Dec.{eqb, leb}
 use lib.ListN.{length}
 use borrow.Author.Tests.{eqb-true, ltb-true, ltb-false, leb-false, not-false}
-use Rattle.ranks.specs.Lists.{if◌then◌else◌, map_with_index, all_true}
+use Rattle.std.specs.Prelude.{if◌then◌else◌}
+use Rattle.ranks.specs.Lists.{map_with_index, all_true}
 use Rattle.records.specs.Split.{share_of_slot, share_of_buffer}
 use Rattle.records.specs.Layout.{slot_of, capacity, slot_count, task_count, buffer_count}
 use Rattle.records.specs.Records.{State, size_allowed, is_full, queue_at, buffer_at, task_at, free_buffer, fresh_task}

@@ -6,7 +6,8 @@ use mathlib.Core.Bool.{Bool, true, false}
 use mathlib.Core.Logic.{◌⊎◌, ⊎_elim}
 use mathlib.Core.List.{List, [], ◌∷◌}
 use borrow.Author.Tests.{eqb-true}
-use Rattle.ranks.specs.Lists.{if◌then◌else◌, map_with_index, numbers_from}
+use Rattle.std.specs.Prelude.{if◌then◌else◌}
+use Rattle.ranks.specs.Lists.{map_with_index, numbers_from}
 use Rattle.ranks.specs.Position.{Position}
 use Rattle.records.specs.Layout.{task_count}
 use Rattle.records.specs.Records.{Task, State, queue_at, buffer_at, task_at, fresh_task, is_waiting, waiting_state}

@@ -6,7 +6,7 @@ use mathlib.Core.Bool.{Bool, true, false, ◌||◌}
 use mathlib.Core.Logic.{◌⊎◌, inl, inr, ⊎_elim}
 use lib.Dec.{eqb}
 use borrow.Author.Tests.{ne_eqb, ltb-true, ltb-false}
-use Rattle.ranks.specs.Lists.{if◌then◌else◌}
+use Rattle.std.specs.Prelude.{if◌then◌else◌}
 use Rattle.records.specs.Layout.{slot_of, slot_count, task_count, buffer_count}
 use Rattle.records.specs.Split.{share_of_slot, share_of_task}
 use Rattle.ranks.specs.Position.{Position, position_at}

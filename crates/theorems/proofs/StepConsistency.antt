@@ -7,7 +7,8 @@ use mathlib.Core.List.{List, [], ◌∷◌}
 use lib.Dec.{eqb, ltb}
 use lib.ListN.{length}
 use borrow.Author.Tests.{eqb-true, ne_eqb, ltb-true}
-use Rattle.ranks.specs.Lists.{if◌then◌else◌, map_with_index, first_true, all_true, mask, count_true, sum_of, minimum}
+use Rattle.std.specs.Prelude.{if◌then◌else◌}
+use Rattle.ranks.specs.Lists.{map_with_index, first_true, all_true, mask, count_true, sum_of, minimum}
 use Rattle.ranks.specs.Position.{stands_at, in_queue}
 use Rattle.records.specs.Layout.{slot_of, id_of, slot_count, buffer_count, task_count}
 use Rattle.records.specs.Split.{share_of_slot, share_of_buffer, share_of_task}

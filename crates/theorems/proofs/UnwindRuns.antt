@@ -6,7 +6,8 @@ use mathlib.Core.Bool.{Bool, true, false, ◌||◌}
 use mathlib.Core.List.{List, [], ◌∷◌, map}
 use lib.Dec.{eqb}
 use borrow.Author.Tests.{eq-eqb, ne_eqb}
-use Rattle.ranks.specs.Lists.{if◌then◌else◌, all_true, bit, all_zero, numbers_from}
+use Rattle.std.specs.Prelude.{if◌then◌else◌}
+use Rattle.ranks.specs.Lists.{all_true, bit, all_zero, numbers_from}
 use Rattle.records.specs.Layout.{task_count}
 use Rattle.records.specs.Split.{share_of_task}
 use Rattle.records.specs.Records.{State}

@@ -1,5 +1,5 @@
 -- W1 to W15 and the errors that document 01 names, on bytes.
-use Rattle.ranks.specs.Prelude.{◌≡◌, map}
+use Rattle.std.specs.Prelude.{◌≡◌, map}
 use Rattle.specification.specs.Cases.{observed, expected, cases}
 
 -- one statement over a single list

@@ -1,8 +1,7 @@
 -- Document 01: the layout, demand 1 and demand 2, as statements about `step` and `run` on byte tables. Demand 3 is in Noninterference.
-use Rattle.std.specs.Prelude.{◌^◌, ◌↔◌}
+use Rattle.std.specs.Prelude.{◌^◌, ◌↔◌, ℕ, suc, ◌≤◌, ◌<◌, ◌≡◌, ◌⊎◌, Bool, true, false, not, ◌&&◌, ◌||◌, List, [], ◌∷◌, map, eqb, if◌then◌else◌}
 use Rattle.std.specs.Int.Count.{ones}
-use Rattle.ranks.specs.Prelude.{ℕ, suc, ◌≤◌, ◌<◌, ◌≡◌, ◌⊎◌, Bool, true, false, not, ◌&&◌, ◌||◌, List, [], ◌∷◌, map, eqb}
-use Rattle.ranks.specs.Lists.{if◌then◌else◌, all_true, count_true, map_with_index}
+use Rattle.ranks.specs.Lists.{all_true, count_true, map_with_index}
 use Rattle.ranks.specs.Position.{in_queue}
 use Rattle.records.specs.Layout.{slot_count, buffer_count, task_count}
 use Rattle.records.specs.Records.{State, queue_at, buffer_at, task_at}

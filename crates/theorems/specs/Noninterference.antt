@@ -1,7 +1,7 @@
 -- Document 01, "Runs": demand 3. What a confined share observes of a run depends on its own calls, its tasks' priorities and
 -- the ticks alone.
-use Rattle.ranks.specs.Prelude.{ℕ, ◌*◌, ◌<◌, ◌≡◌, Bool, true, false, ◌&&◌, ◌||◌, not, List, [], ◌∷◌, map, get_or, eqb, ltb}
-use Rattle.ranks.specs.Lists.{if◌then◌else◌, within, all_true, all_zero, bit, numbers_from}
+use Rattle.std.specs.Prelude.{ℕ, ◌*◌, ◌<◌, ◌≡◌, Bool, true, false, ◌&&◌, ◌||◌, not, List, [], ◌∷◌, map, get_or, eqb, ltb, if◌then◌else◌}
+use Rattle.ranks.specs.Lists.{within, all_true, all_zero, bit, numbers_from}
 use Rattle.ranks.specs.Table.{slice}
 use Rattle.records.specs.Split.{share_of_slot, share_of_buffer, share_of_task}
 use Rattle.records.specs.Layout.{slot_count, queue_width, buffer_count, buffer_width, task_count, task_width, slot_of}

@@ -1,8 +1,7 @@
 -- A queue as a list: what each directive and the tick do to the messages and the waiters of a queue, with no word of ranks, and what becomes of
 -- every queue's and every task's record.
-use Rattle.std.specs.Prelude.{◌↔◌}
-use Rattle.ranks.specs.Prelude.{ℕ, suc, ◌-◌, ◌<◌, ◌≡◌, Bool, true, false, not, ◌||◌, List, [], ◌∷◌, ◌++◌, map, length, get_or, take, eqb, ltb}
-use Rattle.ranks.specs.Lists.{if◌then◌else◌, keep_if, mask, numbers_from}
+use Rattle.std.specs.Prelude.{◌↔◌, ℕ, suc, ◌-◌, ◌<◌, ◌≡◌, Bool, true, false, not, ◌||◌, List, [], ◌∷◌, ◌++◌, map, length, get_or, take, eqb, ltb, if◌then◌else◌}
+use Rattle.ranks.specs.Lists.{keep_if, mask, numbers_from}
 use Rattle.ranks.specs.Position.{position_at}
 use Rattle.ranks.specs.Steps.{by_rank}
 use Rattle.records.specs.Split.{share_of_slot, share_of_task}

@@ -1,5 +1,5 @@
 -- The tables that demand 2 speaks of: bytes of the right lengths that are sound.
-use Rattle.ranks.specs.Prelude.{◌≡◌, ◌⊎◌, true}
+use Rattle.std.specs.Prelude.{◌≡◌, ◌⊎◌, true}
 use Rattle.records.specs.Bytes.{Tables, decode}
 use Rattle.records.specs.InRange.{ByteTables}
 use Rattle.records.specs.Status.{SUCCESSFUL, WAITING}

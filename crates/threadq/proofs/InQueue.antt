@@ -4,7 +4,8 @@ use mathlib.Core.Path.{◌≡◌, sym, ◌∙◌}
 use mathlib.Core.Bool.{Bool, true, false}
 use mathlib.Core.List.{List, map}
 use lib.ListN.{length}
-use Rattle.ranks.specs.Lists.{if◌then◌else◌, map_with_index}
+use Rattle.std.specs.Prelude.{if◌then◌else◌}
+use Rattle.ranks.specs.Lists.{map_with_index}
 use Rattle.ranks.specs.Position.{Position, in_queue}
 use Rattle.ranks.specs.Table.{slice, records}
 use Rattle.records.specs.Changes.{at_index}

@@ -6,7 +6,8 @@ use mathlib.Core.Path.{◌≡◌, refl}
 use mathlib.Core.Bool.{Bool, true, false}
 use mathlib.Core.List.{List, [], ◌∷◌}
 use lib.ListN.{length, drop, length-drop}
-use Rattle.ranks.specs.Lists.{if◌then◌else◌, mask}
+use Rattle.std.specs.Prelude.{if◌then◌else◌}
+use Rattle.ranks.specs.Lists.{mask}
 use Rattle.ranks.specs.Table.{slice}
 use Rattle.records.specs.Layout.{task_count, task_width}
 use Rattle.records.specs.Records.{Task}
@@ -18,6 +19,11 @@ unfolding mask
 mask_below [] = omega arith
 mask_below (true ∷ bs) = omega (arith, mask_below bs, pow-suc 2 (length bs))
 mask_below (false ∷ bs) = omega (arith, mask_below bs, pow-suc 2 (length bs))
+
+mask-first : (b : Bool) (bs : List Bool) → mask (b ∷ bs) ≡ (if b then 1 + 2 * mask bs else 2 * mask bs)
+unfolding mask
+mask-first true bs = refl
+mask-first false bs = refl
 
 -- `m` is the mask of the tasks from `t` on.
 abbrev pub MaskFrom : (test : Task → Bool) (tasks : List ℕ) (m t : ℕ) → Type 0
@@ -36,8 +42,7 @@ module _ (test : Task → Bool) (tasks : List ℕ) where
         omega (arith, before.so_far, mask_below (drop t (parts test tasks)))
 
     pub mask-more : 0 < t → (b : Bool) (r : ℕ) → b ≡ test (decode_task (slice ((t - 1) * task_width) task_width tasks)) → r ≡ (if b then 1 + 2 * m else 2 * m) → MaskFrom test tasks r (t - 1)
-    unfolding mask
-    mask-more = fold_more mask test tasks m t before (λ b k. if b then 1 + 2 * k else 2 * k) (λ b bs. refl)
+    mask-more = fold_more mask test tasks m t before (λ b k. if b then 1 + 2 * k else 2 * k) mask-first
 
     pub mask-all : t ≤ 0 → m ≡ mask (parts test tasks)
     mask-all = fold-all mask test tasks m t before

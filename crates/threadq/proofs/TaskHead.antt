@@ -5,7 +5,8 @@ use mathlib.Core.Path.{◌≡◌, sym, ap, ap₂, ◌∙◌}
 use mathlib.Core.Bool.{Bool, ◌&&◌}
 use mathlib.Core.List.{List}
 use lib.Dec.{eqb, ltb}
-use Rattle.ranks.specs.Lists.{if◌then◌else◌, map_with_index}
+use Rattle.std.specs.Prelude.{if◌then◌else◌}
+use Rattle.ranks.specs.Lists.{map_with_index}
 use Rattle.ranks.specs.Position.{in_queue}
 use Rattle.records.specs.Layout.{task_count, task_width}
 use Rattle.records.specs.Records.{Task, fresh_task}

@@ -1,7 +1,6 @@
 // Masks of tasks.
-ghost use Rattle.std.specs.Prelude.{◌≡◌, ◌*◌, ◌<◌, ◌+◌, ◌^◌};
+ghost use Rattle.std.specs.Prelude.{◌≡◌, ◌*◌, ◌<◌, ◌+◌, ◌^◌, if◌then◌else◌};
 ghost use Rattle.std.specs.Int.Count.{ones};
-ghost use Rattle.ranks.specs.Lists.{if◌then◌else◌};
 ghost use Rattle.records.specs.Layout.{task_count};
 
 // The mask of task t alone, 2 to the power of t.

@@ -1,7 +1,7 @@
 -- `calllog::decode::decode_record` meets its contract. Assumes nothing.
 use mathlib.Core.Path.{sym, ap, ◌∙◌}
 use mathlib.Core.Bool.{Bool}
-use Rattle.ranks.specs.Lists.{if◌then◌else◌}
+use Rattle.std.specs.Prelude.{if◌then◌else◌}
 use Rattle.calllog.specs.declared.call.LogResult.TheVariants.{Malformed}
 use Rattle.calllog.specs.CallLog.{call_in}
 use Rattle.calllog.proofs.Laws.{record-kept}

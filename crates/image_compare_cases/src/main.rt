@@ -5,39 +5,42 @@
 //
 // What has to be printed comes from an independent program, written from document 02 and sharing nothing with this code.
 #![tactic(auto)]
+
 use imageio::printing::print_files;
+use streams::system::System;
 use streams::writing::{standard_output, write};
 
-fn print(text: &[u8]) {
-    let to = standard_output();
-    write(to, text);
+fn print(system: &System, text: &[u8]) {
+    let to = standard_output(system);
+    write(system, to, text);
 }
 
-fn compare_files(one: &[u8], two: &[u8]) {
-    print(one);
-    print(b" ");
-    print(two);
-    print(b"\n");
-    print_files(one, two);
+fn compare_files(system: &System, one: &[u8], two: &[u8]) {
+    print(system, one);
+    print(system, b" ");
+    print(system, two);
+    print(system, b"\n");
+    print_files(system, one, two);
 }
 
-fn main() {
-    compare_files(b"base.image", b"base.image");
-    compare_files(b"base.image", b"one_byte.image");
-    compare_files(b"base.image", b"three_bytes.image");
-    compare_files(b"base.image", b"ends.image");
-    compare_files(b"base.image", b"all_records.image");
-    compare_files(b"base.image", b"all_bytes.image");
-    compare_files(b"all_bytes.image", b"all_bytes.image");
-    compare_files(b"base.image", b"one_byte_less.image");
-    compare_files(b"one_byte_less.image", b"one_byte_less.image");
-    compare_files(b"base.image", b"one_byte_more.image");
-    compare_files(b"one_byte_more.image", b"base.image");
-    compare_files(b"one_byte_more.image", b"one_byte_more.image");
-    compare_files(b"no_bytes.image", b"base.image");
-    compare_files(b"base.image", b"no_bytes.image");
-    compare_files(b"base.image", b"missing.image");
-    compare_files(b"missing.image", b"base.image");
-    compare_files(b"missing.image", b"missing.image");
-    compare_files(b"base.image", b".");
+fn main(rt: HostRuntime) {
+    let system = System::new(rt);
+    compare_files(&system, b"base.image", b"base.image");
+    compare_files(&system, b"base.image", b"one_byte.image");
+    compare_files(&system, b"base.image", b"three_bytes.image");
+    compare_files(&system, b"base.image", b"ends.image");
+    compare_files(&system, b"base.image", b"all_records.image");
+    compare_files(&system, b"base.image", b"all_bytes.image");
+    compare_files(&system, b"all_bytes.image", b"all_bytes.image");
+    compare_files(&system, b"base.image", b"one_byte_less.image");
+    compare_files(&system, b"one_byte_less.image", b"one_byte_less.image");
+    compare_files(&system, b"base.image", b"one_byte_more.image");
+    compare_files(&system, b"one_byte_more.image", b"base.image");
+    compare_files(&system, b"one_byte_more.image", b"one_byte_more.image");
+    compare_files(&system, b"no_bytes.image", b"base.image");
+    compare_files(&system, b"base.image", b"no_bytes.image");
+    compare_files(&system, b"base.image", b"missing.image");
+    compare_files(&system, b"missing.image", b"base.image");
+    compare_files(&system, b"missing.image", b"missing.image");
+    compare_files(&system, b"base.image", b".");
 }

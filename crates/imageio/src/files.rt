@@ -23,5 +23,6 @@ pub fn read_file(system: &System, path: &[u8], buffer: &mut [u8]) -> usize
 {
     let from = open_file(system, path);
     let f = fill(system, &from, buffer);
+    drop(from);
     f.n
 }

@@ -22,7 +22,6 @@ use Rattle.logio.specs.declared.input.Ending.{Ending}
 use Rattle.logio.specs.declared.input.Ending.TheVariants.{GoesOn, Complete}
 use Rattle.streams.specs.Filling.{standard_input, Fills, full, ended, failed, more}
 use Rattle.logio.specs.Turns.{block_records, block_bytes, ReplaysBlock, after_block, goes_on, Finished, Turn, Turns, last, spent, log_of, answers_of, ReplayedInTurns}
-use Rattle.logio.specs.Turns as Turns
 use Rattle.streams.proofs.Added.{room-left}
 use Rattle.logio.proofs.Room.{front-answers}
 

@@ -2,11 +2,13 @@
 ghost use Rattle.std.specs.Prelude.{◌*◌, ◌≤◌, length};
 ghost use Rattle.records.specs.Bytes.{tables};
 ghost use Rattle.calllog.specs.CallLog.{answer_width, record_count};
+ghost use Rattle.streams.specs.Filling.{input_of};
 ghost use Rattle.logio.specs.Turns.{ReplaysBlock};
 
 use calllog::layout::{ANSWER_WIDTH, RECORD_WIDTH};
 use runs::replay::replay_all;
-use streams::reading::{Input, fill};
+use streams::reading::{Source, fill};
+use streams::system::System;
 
 // How many records a block has.
 const BLOCK_RECORDS: usize = 481;
@@ -27,7 +29,8 @@ pub struct BlockReplayed {
 
 // Reads a block of a log and replays it.
 pub fn replay_block(
-    from: Input,
+    system: &System,
+    from: &Source,
     queues: &mut [u8],
     pool: &mut [u8],
     tasks: &mut [u8],
@@ -35,10 +38,10 @@ pub fn replay_block(
     answers: &mut [u8],
 ) -> BlockReplayed
     requires { record_count (length log.old) * answer_width ≤ length answers.old }
-    ensures { ReplaysBlock from (tables queues.old pool.old tasks.old) log.old answers.old
+    ensures { ReplaysBlock (input_of from.now) (tables queues.old pool.old tasks.old) log.old answers.old
         result log.new answers.new (tables queues.new pool.new tasks.new) }
 {
-    let f = fill(from, log);
+    let f = fill(system, from, log);
     let n = f.n;
     let end = replay_all(queues, pool, tasks, &log[..n], answers);
     BlockReplayed {

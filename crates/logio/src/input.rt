@@ -6,6 +6,7 @@ ghost use Rattle.logio.specs.Turns.{goes_on as Turns·goes_on};
 
 use crate::block::{ANSWERS, BLOCK, BlockReplayed, replay_block};
 use streams::reading::standard_input;
+use streams::system::System;
 use streams::writing::{say_failed, standard_output, write_answers};
 
 // What became of a log.
@@ -45,37 +46,49 @@ fn goes_on(e: Ending) -> bool
 }
 
 // What follows a block: its answers are written, where they are asked for. After a failed read there are none.
-fn finish(b: BlockReplayed, answering: bool, answers: &[u8]) -> Ending
+fn finish(system: &System, b: BlockReplayed, answering: bool, answers: &[u8]) -> Ending
     requires { b.end ≤ length answers.now }
     ensures { Finished answering b.n b.failed (take b.end answers.now) result }
 {
     let end = b.end;
-    let to = standard_output();
-    let done = write_answers(to, answering, &answers[..end]);
+    let to = standard_output(system);
+    let done = write_answers(system, to, answering, &answers[..end]);
     after_block(b.n, b.failed, done)
 }
 
 // Reads a block, replays it and writes its answers.
-fn turn(queues: &mut [u8], pool: &mut [u8], tasks: &mut [u8], answering: bool) -> Ending
+fn turn(
+    system: &System,
+    queues: &mut [u8],
+    pool: &mut [u8],
+    tasks: &mut [u8],
+    answering: bool,
+) -> Ending
     ensures { Turn answering (tables queues.old pool.old tasks.old) result
         (tables queues.new pool.new tasks.new) }
 {
     let mut log = [0u8; BLOCK];
     let mut answers = [0u8; ANSWERS];
-    let from = standard_input();
-    let b = replay_block(from, queues, pool, tasks, &mut log, &mut answers);
-    finish(b, answering, &answers)
+    let from = standard_input(system);
+    let b = replay_block(system, &from, queues, pool, tasks, &mut log, &mut answers);
+    finish(system, b, answering, &answers)
 }
 
 // Replays the log, and writes its answers where they are asked for.
 // A proved loop has to end, and nothing says that a log does. So the loop counts its turns down, from a number that no run uses up.
-pub fn replay_input(queues: &mut [u8], pool: &mut [u8], tasks: &mut [u8], answering: bool) -> Ending
+pub fn replay_input(
+    system: &System,
+    queues: &mut [u8],
+    pool: &mut [u8],
+    tasks: &mut [u8],
+    answering: bool,
+) -> Ending
     ensures { ReplayedInTurns answering (tables queues.old pool.old tasks.old) result
         (tables queues.new pool.new tasks.new) }
 {
     let mut turns = u64::MAX;
     while turns > 0 {
-        let e = turn(queues, pool, tasks, answering);
+        let e = turn(system, queues, pool, tasks, answering);
         if !goes_on(e) {
             return e;
         }
@@ -85,13 +98,13 @@ pub fn replay_input(queues: &mut [u8], pool: &mut [u8], tasks: &mut [u8], answer
 }
 
 // Says on standard error why a log was not replayed to its end.
-pub fn tell(e: Ending)
+pub fn tell(system: &System, e: Ending)
     ensures { Tells e }
 {
     match e {
         Ending::Complete => {}
-        Ending::NotWritten => say_failed(b"standard output"),
-        Ending::NotRead => say_failed(b"standard input"),
-        Ending::GoesOn => say_failed(b"length of the log"),
+        Ending::NotWritten => say_failed(system, b"standard output"),
+        Ending::NotRead => say_failed(system, b"standard input"),
+        Ending::GoesOn => say_failed(system, b"length of the log"),
     }
 }

@@ -17,6 +17,7 @@
 // The answers and tables come from an independent program, written from documents 01 and 02 and sharing nothing with this code; the answers
 // of worked_example are the 16 bytes that document 01 prints.
 #![tactic(auto)]
+
 mod case; // case.rt: a case, run on the code
 
 ghost use Rattle.std.specs.Prelude.{◌≡◌, ◌+◌, ◌<◌, ◌≤◌, length};
@@ -26,39 +27,34 @@ ghost use Rattle.replay_cases.specs.StoredCase.{rest_room};
 use crate::case::{REST_ROOM, case_holds};
 use calllog::layout::{ANSWER_WIDTH, RECORD_WIDTH};
 use fresh_tables::start::fresh;
-use libc::STDOUT_FILENO;
 use logio::agreeing::fronts_agreeing;
 use logio::block::{ANSWERS, BLOCK, replay_block};
 use octets::copy::copy_into;
 use octets::numbers::read_u16;
 use records::layout::{IMAGE_SIZE, POOL_PLACE, POOL_SIZE, QUEUES_SIZE, TASKS_PLACE, TASKS_SIZE};
 use std::num::wrapping_add_u64;
-use streams::reading::{Input, fill};
+use streams::reading::{Source, fill, open};
+use streams::system::System;
+use streams::writing::{standard_output, write};
 
 // ---- Text on standard output
 
-fn print(text: &[u8]) {
-    io::write_all(STDOUT_FILENO, text);
+fn print(system: &System, text: &[u8]) {
+    let to = standard_output(system);
+    write(system, to, text);
 }
 
-fn print_number(n: u64) {
-    io::print_decimal(STDOUT_FILENO, n);
+fn print_number(system: &System, n: u64) {
+    let _ = system.runtime().print(n);
 }
 
 // ---- Files
 
-// Where it can't be opened every read fails.
-fn open(path: &[u8]) -> Input {
-    Input {
-        fd: os::open_read(path),
-    }
-}
-
 // Fills the first n bytes of a buffer. Whether they were all there.
-fn fill_front(from: Input, buffer: &mut [u8], n: usize) -> bool
+fn fill_front(system: &System, from: &Source, buffer: &mut [u8], n: usize) -> bool
     requires { n ≤ length buffer.old }
 {
-    let f = fill(from, &mut buffer[..n]);
+    let f = fill(system, from, &mut buffer[..n]);
     f.n == n
 }
 
@@ -119,9 +115,10 @@ fn with_block(p: LogProgress, n: usize, equal: bool, same: usize, more: bool) ->
 
 // The next block of the log and of the stored answers. What could not be read differs.
 fn next_block(
+    system: &System,
     p: LogProgress,
-    log_from: Input,
-    answers_from: Input,
+    log_from: &Source,
+    answers_from: &Source,
     queues: &mut [u8],
     pool: &mut [u8],
     tasks: &mut [u8],
@@ -129,9 +126,17 @@ fn next_block(
     let mut log = [0u8; BLOCK];
     let mut answers = [0u8; ANSWERS];
     let mut stored = [0u8; ANSWERS];
-    let b = replay_block(log_from, queues, pool, tasks, &mut log, &mut answers);
+    let b = replay_block(
+        system,
+        log_from,
+        queues,
+        pool,
+        tasks,
+        &mut log,
+        &mut answers,
+    );
     let end = b.end;
-    let s = fill(answers_from, &mut stored);
+    let s = fill(system, answers_from, &mut stored);
     let same = fronts_agreeing(&answers, end, &stored, s.n);
     let equal = (same == end) & (same == s.n) & !b.failed & !s.failed;
     with_block(
@@ -145,8 +150,9 @@ fn next_block(
 
 // The whole log. The loop counts its turns down, since nothing says that a log ends.
 fn compare_answers(
-    log_from: Input,
-    answers_from: Input,
+    system: &System,
+    log_from: &Source,
+    answers_from: &Source,
     queues: &mut [u8],
     pool: &mut [u8],
     tasks: &mut [u8],
@@ -159,13 +165,13 @@ fn compare_answers(
     };
     let mut turns = u64::MAX;
     while turns > 0 && p.more {
-        p = next_block(p, log_from, answers_from, queues, pool, tasks);
+        p = next_block(system, p, log_from, answers_from, queues, pool, tasks);
         turns -= 1;
     }
     p
 }
 
-#[derive(Drop)]
+#[derive(Clone, Copy)]
 struct Compared {
     equal: bool,
     differs_at: usize, // the byte of the image that differs first
@@ -173,7 +179,8 @@ struct Compared {
 
 // "An image is the three tables in this order, 12,800 bytes." Room for one byte more shows a stored image that is too long.
 fn compare_image(
-    from: Input,
+    system: &System,
+    from: &Source,
     queues: &[u8; QUEUES_SIZE],
     pool: &[u8; POOL_SIZE],
     tasks: &[u8; TASKS_SIZE],
@@ -183,7 +190,7 @@ fn compare_image(
     copy_into(&mut image, POOL_PLACE, pool);
     copy_into(&mut image, TASKS_PLACE, tasks);
     let mut stored = [0u8; IMAGE_SIZE + 1];
-    let f = fill(from, &mut stored);
+    let f = fill(system, from, &mut stored);
     let differs_at = fronts_agreeing(&image, IMAGE_SIZE, &stored, f.n);
     Compared {
         equal: (differs_at == IMAGE_SIZE) & (f.n == IMAGE_SIZE),
@@ -201,42 +208,56 @@ fn differing(same_answers: bool, same_image: bool) -> u64 {
 }
 
 // Tells of a log in a line.
-fn tell_log(name: &[u8], p: LogProgress, c: Compared) {
-    print(name);
-    print(b": ");
-    print_number(p.records);
-    print(b" records, answers ");
+fn tell_log(system: &System, name: &[u8], p: LogProgress, c: Compared) {
+    print(system, name);
+    print(system, b": ");
+    print_number(system, p.records);
+    print(system, b" records, answers ");
     if p.equal {
-        print(b"equal, image ");
+        print(system, b"equal, image ");
     } else {
-        print(b"differ first at record ");
-        print_number(p.differs_at);
-        print(b", image ");
+        print(system, b"differ first at record ");
+        print_number(system, p.differs_at);
+        print(system, b", image ");
     }
     if c.equal {
-        print(b"equal\n");
+        print(system, b"equal\n");
     } else {
-        print(b"differs first at byte ");
-        print_number(c.differs_at as u64);
-        print(b"\n");
+        print(system, b"differs first at byte ");
+        print_number(system, c.differs_at as u64);
+        print(system, b"\n");
     }
 }
 
 // Replays a log and compares. Records and bytes of the image count from 0.
-fn compare_log(t: Totals, name: &[u8], log: &[u8], answers: &[u8], image: &[u8]) -> Totals {
-    let log_from = open(log);
-    let answers_from = open(answers);
-    let image_from = open(image);
+fn compare_log(
+    system: &System,
+    t: Totals,
+    name: &[u8],
+    log: &[u8],
+    answers: &[u8],
+    image: &[u8],
+) -> Totals {
+    let log_from = open(system, log);
+    let answers_from = open(system, answers);
+    let image_from = open(system, image);
     let start = fresh();
     let mut queues = start.queues;
     let mut pool = start.pool;
     let mut tasks = start.tasks;
-    let p = compare_answers(log_from, answers_from, &mut queues, &mut pool, &mut tasks);
-    let c = compare_image(image_from, &queues, &pool, &tasks);
-    libc::close(log_from.fd);
-    libc::close(answers_from.fd);
-    libc::close(image_from.fd);
-    tell_log(name, p, c);
+    let p = compare_answers(
+        system,
+        &log_from,
+        &answers_from,
+        &mut queues,
+        &mut pool,
+        &mut tasks,
+    );
+    let c = compare_image(system, &image_from, &queues, &pool, &tasks);
+    drop(log_from);
+    drop(answers_from);
+    drop(image_from);
+    tell_log(system, name, p, c);
     t.with(0, p.records, differing(p.equal, c.equal))
 }
 
@@ -271,7 +292,7 @@ fn after_case(p: CaseProgress, n: usize, same: bool) -> CaseProgress {
 }
 
 // Where the log, the answers and the changes after begin in what follows a case's head, and where that ends.
-#[derive(Drop)]
+#[derive(Clone, Copy)]
 struct Parts {
     log: usize,
     answers: usize,
@@ -320,11 +341,11 @@ fn rest_holds(base: &[u8], rest: &[u8], p: Parts) -> bool
 }
 
 // Tells which case is another than stored.
-fn tell_case(file: &[u8], name: &[u8]) {
-    print(file);
-    print(b" differs: ");
-    print(name);
-    print(b"\n");
+fn tell_case(system: &System, file: &[u8], name: &[u8]) {
+    print(system, file);
+    print(system, b" differs: ");
+    print(system, name);
+    print(system, b"\n");
 }
 
 // What became of a case.
@@ -335,7 +356,7 @@ struct Ran {
 }
 
 // Reads what follows the head of a case, and runs it.
-fn run_rest(from: Input, base: &[u8], p: Parts) -> Ran
+fn run_rest(system: &System, from: &Source, base: &[u8], p: Parts) -> Ran
     requires { (length base.now ≡ image_size) × ((p.log ≤ p.answers) × ((p.answers ≤ p.after) × (p.after ≤ p.end))) }
 {
     let mut rest = [0u8; REST_ROOM];
@@ -346,7 +367,7 @@ fn run_rest(from: Input, base: &[u8], p: Parts) -> Ran
             holds: false,
         };
     }
-    if !fill_front(from, &mut rest, end) {
+    if !fill_front(system, from, &mut rest, end) {
         return Ran {
             read: false,
             holds: false,
@@ -359,27 +380,33 @@ fn run_rest(from: Input, base: &[u8], p: Parts) -> Ran
 }
 
 // The next case. One that does not hold is named.
-fn next_case(p: CaseProgress, from: Input, file: &[u8], base: &[u8]) -> CaseProgress
+fn next_case(
+    system: &System,
+    p: CaseProgress,
+    from: &Source,
+    file: &[u8],
+    base: &[u8],
+) -> CaseProgress
     requires { length base.now ≡ image_size }
 {
     let mut head = [0u8; 38];
-    let h = fill(from, &mut head);
+    let h = fill(system, from, &mut head);
     if h.n != 38 {
         return at_end(p, (h.n == 0) & !h.failed);
     }
     let q = parts_of(&head);
-    let r = run_rest(from, base, q);
+    let r = run_rest(system, from, base, q);
     if !r.read {
         return at_end(p, false);
     }
     if !r.holds {
-        tell_case(file, &head[0..32]);
+        tell_case(system, file, &head[0..32]);
     }
     after_case(p, (q.after - q.answers) / ANSWER_WIDTH, r.holds)
 }
 
 // All cases. The loop counts its turns down, since nothing says that a file ends.
-fn run_cases(from: Input, file: &[u8], base: &[u8]) -> CaseProgress
+fn run_cases(system: &System, from: &Source, file: &[u8], base: &[u8]) -> CaseProgress
     requires { length base.now ≡ image_size }
 {
     let mut p = CaseProgress {
@@ -390,16 +417,16 @@ fn run_cases(from: Input, file: &[u8], base: &[u8]) -> CaseProgress
     };
     let mut turns = u64::MAX;
     while turns > 0 && p.more {
-        p = next_case(p, from, file, base);
+        p = next_case(system, p, from, file, base);
         turns -= 1;
     }
     p
 }
 
 // The image, and then the cases.
-fn read_cases(from: Input, file: &[u8]) -> CaseProgress {
+fn read_cases(system: &System, from: &Source, file: &[u8]) -> CaseProgress {
     let mut base = [0u8; IMAGE_SIZE];
-    let f = fill(from, &mut base);
+    let f = fill(system, from, &mut base);
     if f.n != IMAGE_SIZE {
         return CaseProgress {
             cases: 0,
@@ -408,29 +435,37 @@ fn read_cases(from: Input, file: &[u8]) -> CaseProgress {
             more: false,
         };
     }
-    run_cases(from, file, &base)
+    run_cases(system, from, file, &base)
 }
 
 // Runs the cases of a file and tells of them in a line.
-fn compare_cases(t: Totals, name: &[u8], path: &[u8]) -> Totals {
-    let from = open(path);
-    let p = read_cases(from, name);
-    libc::close(from.fd);
-    print(name);
-    print(b": ");
-    print_number(p.cases);
-    print(b" cases, ");
-    print_number(p.records);
-    print(b" records, ");
-    print_number(p.differences);
-    print(b" differences\n");
+fn compare_cases(system: &System, t: Totals, name: &[u8], path: &[u8]) -> Totals {
+    let from = open(system, path);
+    let p = read_cases(system, &from, name);
+    drop(from);
+    print(system, name);
+    print(system, b": ");
+    print_number(system, p.cases);
+    print(system, b" cases, ");
+    print_number(system, p.records);
+    print(system, b" records, ");
+    print_number(system, p.differences);
+    print(system, b" differences\n");
     t.with(p.cases, p.records, p.differences)
 }
 
 // The logs that were written by hand.
-fn compare_written_logs(t: Totals) -> Totals {
-    let t = compare_log(t, b"empty", b"empty.log", b"empty.answers", b"empty.image");
+fn compare_written_logs(system: &System, t: Totals) -> Totals {
     let t = compare_log(
+        system,
+        t,
+        b"empty",
+        b"empty.log",
+        b"empty.answers",
+        b"empty.image",
+    );
+    let t = compare_log(
+        system,
         t,
         b"worked_example",
         b"worked_example.log",
@@ -438,6 +473,7 @@ fn compare_written_logs(t: Totals) -> Totals {
         b"worked_example.image",
     );
     let t = compare_log(
+        system,
         t,
         b"paper_cases",
         b"paper_cases.log",
@@ -445,6 +481,7 @@ fn compare_written_logs(t: Totals) -> Totals {
         b"paper_cases.image",
     );
     compare_log(
+        system,
         t,
         b"malformed",
         b"malformed.log",
@@ -454,8 +491,9 @@ fn compare_written_logs(t: Totals) -> Totals {
 }
 
 // The logs that end in a short part.
-fn compare_short_logs(t: Totals) -> Totals {
+fn compare_short_logs(system: &System, t: Totals) -> Totals {
     let t = compare_log(
+        system,
         t,
         b"short_1",
         b"short_1.log",
@@ -463,6 +501,7 @@ fn compare_short_logs(t: Totals) -> Totals {
         b"short_1.image",
     );
     let t = compare_log(
+        system,
         t,
         b"short_16",
         b"short_16.log",
@@ -470,6 +509,7 @@ fn compare_short_logs(t: Totals) -> Totals {
         b"short_16.image",
     );
     compare_log(
+        system,
         t,
         b"short_135",
         b"short_135.log",
@@ -479,40 +519,63 @@ fn compare_short_logs(t: Totals) -> Totals {
 }
 
 // The random logs.
-fn compare_random_logs(t: Totals) -> Totals {
-    let t = compare_log(t, b"mixed", b"mixed.log", b"mixed.answers", b"mixed.image");
-    let t = compare_log(t, b"wide", b"wide.log", b"wide.answers", b"wide.image");
+fn compare_random_logs(system: &System, t: Totals) -> Totals {
     let t = compare_log(
+        system,
+        t,
+        b"mixed",
+        b"mixed.log",
+        b"mixed.answers",
+        b"mixed.image",
+    );
+    let t = compare_log(
+        system,
+        t,
+        b"wide",
+        b"wide.log",
+        b"wide.answers",
+        b"wide.image",
+    );
+    let t = compare_log(
+        system,
         t,
         b"isolation",
         b"isolation.log",
         b"isolation.answers",
         b"isolation.image",
     );
-    compare_log(t, b"long", b"long.log", b"long.answers", b"long.image")
+    compare_log(
+        system,
+        t,
+        b"long",
+        b"long.log",
+        b"long.answers",
+        b"long.image",
+    )
 }
 
 // The files of cases.
-fn compare_all_cases(t: Totals) -> Totals {
-    let t = compare_cases(t, b"R", b"R.cases");
-    let t = compare_cases(t, b"Q", b"Q.cases");
-    let t = compare_cases(t, b"M", b"M.cases");
-    let t = compare_cases(t, b"T", b"T.cases");
-    let t = compare_cases(t, b"X", b"X.cases");
-    compare_cases(t, b"sound_tables", b"sound_tables.cases")
+fn compare_all_cases(system: &System, t: Totals) -> Totals {
+    let t = compare_cases(system, t, b"R", b"R.cases");
+    let t = compare_cases(system, t, b"Q", b"Q.cases");
+    let t = compare_cases(system, t, b"M", b"M.cases");
+    let t = compare_cases(system, t, b"T", b"T.cases");
+    let t = compare_cases(system, t, b"X", b"X.cases");
+    compare_cases(system, t, b"sound_tables", b"sound_tables.cases")
 }
 
-fn main() {
-    let t = compare_written_logs(Totals::none());
-    let t = compare_short_logs(t);
-    let t = compare_random_logs(t);
-    let t = compare_all_cases(t);
-    print_number(t.files);
-    print(b" files, ");
-    print_number(t.cases);
-    print(b" cases, ");
-    print_number(t.records);
-    print(b" records, ");
-    print_number(t.differences);
-    print(b" differences\n");
+fn main(rt: HostRuntime) {
+    let system = System::new(rt);
+    let t = compare_written_logs(&system, Totals::none());
+    let t = compare_short_logs(&system, t);
+    let t = compare_random_logs(&system, t);
+    let t = compare_all_cases(&system, t);
+    print_number(&system, t.files);
+    print(&system, b" files, ");
+    print_number(&system, t.cases);
+    print(&system, b" cases, ");
+    print_number(&system, t.records);
+    print(&system, b" records, ");
+    print_number(&system, t.differences);
+    print(&system, b" differences\n");
 }

@@ -1,13 +1,15 @@
 // Replays a call log from standard input, from fresh tables, and writes the tables after it to standard output: queues, pool, tasks.
 #![tactic(auto)]
+
 use fresh_tables::start::fresh;
 use logio::input::{Ending, replay_input, tell};
+use streams::system::System;
 use streams::writing::{standard_output, write};
 
 // Writes the image. What became of it.
-fn write_image(queues: &[u8], pool: &[u8], tasks: &[u8]) -> Ending {
-    let to = standard_output();
-    let written = write(to, queues) && write(to, pool) && write(to, tasks);
+fn write_image(system: &System, queues: &[u8], pool: &[u8], tasks: &[u8]) -> Ending {
+    let to = standard_output(system);
+    let written = write(system, to, queues) && write(system, to, pool) && write(system, to, tasks);
     if written {
         Ending::Complete
     } else {
@@ -15,17 +17,18 @@ fn write_image(queues: &[u8], pool: &[u8], tasks: &[u8]) -> Ending {
     }
 }
 
-fn main() {
+fn main(rt: HostRuntime) {
+    let system = System::new(rt);
     let t = fresh();
     let mut queues = t.queues;
     let mut pool = t.pool;
     let mut tasks = t.tasks;
-    let e = replay_input(&mut queues, &mut pool, &mut tasks, false);
+    let e = replay_input(&system, &mut queues, &mut pool, &mut tasks, false);
     let e = match e {
-        Ending::Complete => write_image(&queues, &pool, &tasks),
+        Ending::Complete => write_image(&system, &queues, &pool, &tasks),
         Ending::GoesOn => e,
         Ending::NotRead => e,
         Ending::NotWritten => e,
     };
-    tell(e);
+    tell(&system, e);
 }

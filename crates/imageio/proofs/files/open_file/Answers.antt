@@ -1,4 +1,4 @@
--- `imageio::files::open_file` meets its contract. Assumes nothing.
+-- `imageio::files::open_file`. Assumes nothing.
 use Rattle.imageio.specs.Files.{asked}
 use Rattle.imageio.proofs.files.open_file.Goals as goal
 

@@ -1,4 +1,4 @@
--- `imageio::files::read_file` meets its contract. Assumes nothing.
+-- `imageio::files::read_file`. Assumes nothing.
 use Prim.Native.Nat.{◌≤◌}
 use native.Mathlib.Omega.{arith}
 use mathlib.Core.Path.{refl, sym}

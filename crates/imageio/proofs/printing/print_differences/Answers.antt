@@ -1,4 +1,4 @@
--- `imageio::printing::print_differences` meets its contract. Assumes nothing.
+-- `imageio::printing::print_differences`. Assumes nothing.
 use Prim.Native.Nat.{ℕ}
 use mathlib.Core.Path.{sym, subst}
 use mathlib.Core.List.{List}

@@ -1,4 +1,4 @@
--- `imageio::text::digit` meets its contract. Assumes nothing.
+-- `imageio::text::digit`. Assumes nothing.
 use mathlib.Core.Path.{refl}
 use Rattle.imageio.specs.Printed.{digit}
 use Rattle.imageio.proofs.text.digit.Goals as goal

@@ -1,4 +1,4 @@
--- `imageio::text::put` meets its contract. Assumes nothing.
+-- `imageio::text::put`. Assumes nothing.
 use Rattle.imageio.proofs.Appending.{one_byte}
 use Rattle.imageio.proofs.text.put.Goals as goal
 

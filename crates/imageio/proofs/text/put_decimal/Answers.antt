@@ -1,4 +1,4 @@
--- `imageio::text::put_decimal` meets its contract. Assumes nothing.
+-- `imageio::text::put_decimal`. Assumes nothing.
 use native.Mathlib.Omega.{arith}
 use mathlib.Core.Path.{sym}
 use Rattle.imageio.proofs.Appending.{◌then◌, one-digit, two_digits, three-digits}

@@ -1,4 +1,4 @@
--- `imageio::text::put_differences` meets its contract. Assumes nothing.
+-- `imageio::text::put_differences`. Assumes nothing.
 use native.Mathlib.Omega.{arith}
 use mathlib.Core.Path.{◌∙◌}
 use Rattle.imageio.proofs.Lines.{refused, listed}

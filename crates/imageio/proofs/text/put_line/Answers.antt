@@ -1,4 +1,4 @@
--- `imageio::text::put_line` meets its contract. Assumes nothing.
+-- `imageio::text::put_line`. Assumes nothing.
 use native.Mathlib.Omega.{arith}
 use Rattle.imageio.specs.Printed.{line}
 use Rattle.imageio.proofs.Appending.{◌then◌}

@@ -1,4 +1,4 @@
--- `imageio::text::put_lines` meets its contract. Assumes nothing.
+-- `imageio::text::put_lines`. Assumes nothing.
 use Prim.Native.Nat.{ℕ, ◌<◌}
 use native.Mathlib.Omega.{arith}
 use mathlib.Core.Path.{◌≡◌, refl, sym, ap, ◌∙◌}

@@ -1,4 +1,4 @@
--- `imageio::text::put_lines` meets its contract. Assumes nothing.
+-- `imageio::text::put_lines`. Assumes nothing.
 use Prim.Native.Nat.{◌-◌}
 use Rattle.imageio.proofs.Lines.{LinesPut}
 use Rattle.imageio.proofs.text.put_lines.Given as goal

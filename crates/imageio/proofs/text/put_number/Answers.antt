@@ -1,4 +1,4 @@
--- `imageio::text::put_number` meets its contract. Assumes nothing.
+-- `imageio::text::put_number`. Assumes nothing.
 use native.Mathlib.Omega.{arith}
 use Rattle.imageio.specs.Printed.{number_then}
 use Rattle.imageio.proofs.Appending.{◌then◌}

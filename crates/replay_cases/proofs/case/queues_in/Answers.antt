@@ -1,0 +1,13 @@
+-- `replay_cases::case::queues_in`. Assumes nothing.
+use Rattle.std.proofs.Common.{◌∙◌, arith}
+use Rattle.records.specs.Layout.{queues_size}
+use Rattle.ranks.specs.Table.{slice}
+use Rattle.replay_cases.specs.StoredCase.{tables_in}
+use Rattle.replay_cases.proofs.Laws.{copied, part_length}
+use Rattle.replay_cases.proofs.case.queues_in.Goals as goal
+
+pub returns : goal.returns
+unfolding tables_in slice
+returns c =
+    let image = c.args.image.now in
+    c.copy_into.ensures ∙ copied queues_size _ (part_length 0 queues_size image (omega arith))

@@ -4,7 +4,7 @@ use native.Mathlib.Omega.{arith}
 use mathlib.Core.List.{List}
 use Prim.Native.Nat.{ℕ, ◌+◌, ◌≤◌, ◌<◌}
 use mathlib.Core.Path.{◌≡◌, refl, sym, ap, ◌∙◌}
-use mathlib.Core.Bool.{Bool, true, false, not}
+use mathlib.Core.Bool.{Bool, true, false}
 use lib.ListN.{length, get_or, drop}
 use Rattle.ranks.specs.Lists.{map_with_index, all_true, first_true, every, find_index}
 use Rattle.ranks.proofs.Lists.{at-mapped, length-mapped, first_more, first-here, first-none, all_more, all-stop, all_end}

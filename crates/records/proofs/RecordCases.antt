@@ -2,7 +2,7 @@
 use Rattle.std.specs.Prelude.{ℕ, List, [], ◌∷◌, map, replicate}
 use Rattle.ranks.specs.Lists.{map_from_index, map_with_index, first_true, numbers_from}
 use Rattle.ranks.specs.Table.{slice}
-use Rattle.records.specs.Split.{split, share_of_slot, share_of_buffer, share_of_task, share_limit}
+use Rattle.records.specs.Split.{share_of_slot, share_of_buffer, share_of_task, share_limit}
 use Rattle.records.specs.Records.{fresh, fresh_task}
 use Rattle.octets.specs.LittleEndian.{from_little_endian, to_little_endian}
 use Rattle.records.specs.Bytes.{decode_queue, encode_queue, decode_buffer, encode_buffer, decode_task, encode_task, encode}

@@ -1,5 +1,5 @@
 -- A call and a run on the byte tables are the call and the run on their records. Assumes nothing.
-use Prim.Native.Nat.{ℕ, ◌+◌, ◌*◌, ◌<◌}
+use Prim.Native.Nat.{ℕ, ◌*◌, ◌<◌}
 use native.Mathlib.Omega.{arith}
 use mathlib.Core.Path.{◌≡◌, refl, sym, ap, ◌∙◌}
 use mathlib.Core.Bool.{Bool, true, false, false≢true}
@@ -14,11 +14,9 @@ use Rattle.records.specs.Records.{State, queue_at, buffer_at, task_at, free_queu
 use Rattle.records.specs.Bytes.{Tables, decode_queue, encode_queue, decode_buffer, encode_buffer, decode_task, encode_task, decode, encode, right_lengths}
 use Rattle.specification.specs.Answer.{Outcome, Refusal, refuse_if_any, refuse}
 use Rattle.specification.specs.Call.{Call, arguments_in_range}
-use Rattle.specification.specs.Sound.{sound}
 use Rattle.specification.specs.Step.{common_refusals, own_refusals, refusals, effect, encoded, step}
 use Rattle.specification.specs.Run.{Event, run}
 use Rattle.ranks.proofs.Tests.{and}
-use Rattle.ranks.proofs.Table.{length-records}
 use Rattle.records.proofs.DecodeEncode.{QueueEncodable, BufferEncodable, TaskEncodable, length-queue, length-buffer, length-task, decode-encode-queue, decode-encode-buffer, decode-encode-task, Each, each_of, decode-encode-records, record-at}
 use Rattle.specification.proofs.OnRecords.{call_on_records, events_on_records, state_after}
 use Rattle.specification.proofs.SoundFacts.{Sized, SoundFacts}

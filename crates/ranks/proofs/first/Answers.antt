@@ -2,7 +2,7 @@
 use native.Mathlib.Omega.{arith}
 use mathlib.Core.List.{[]}
 use mathlib.Core.Path.{◌≡◌, ap, ◌∙◌}
-use Prim.Native.Nat.{◌*◌, ◌-◌}
+use Prim.Native.Nat.{◌*◌}
 use Rattle.ranks.specs.Position.{stands_at}
 use Rattle.ranks.specs.Table.{slice, position_in}
 use Rattle.ranks.proofs.Searches.{none_below, search-finds, search-goes-on, search-ends}

@@ -3,7 +3,7 @@ use mathlib.Core.Path.{◌≡◌, sym, subst}
 use mathlib.Core.Bool.{true}
 use native.Mathlib.Omega.{arith}
 use mathlib.Core.List.{[]}
-use Prim.Native.Nat.{◌<◌, ◌-◌}
+use Prim.Native.Nat.{◌<◌}
 use Rattle.ranks.specs.Position.{Position, in_queue}
 use Rattle.ranks.proofs.InTurn.{none-changed, all_changed}
 use Rattle.ranks.proofs.Table.{length-records, position-inside, position-still, one-more-moved}

@@ -1,5 +1,4 @@
 -- `objects::slots::free_slot` meets its contract. Assumes nothing.
-use Prim.Native.Nat.{◌-◌}
 use native.Mathlib.Omega.{arith}
 use mathlib.Core.Path.{sym, ◌∙◌}
 use Rattle.records.specs.Layout.{slot_count, queue_width}

@@ -1,5 +1,4 @@
 -- `octets::zeros::single_zeros_from` meets its contract. Assumes nothing.
-use Prim.Native.Nat.{◌-◌}
 use mathlib.Core.Path.{refl}
 use Rattle.octets.proofs.ZeroBytes.{zeros-one, zeros-more, zeros-end}
 use Rattle.octets.proofs.zeros.single_zeros_from.Goals as goal

@@ -1,5 +1,6 @@
 // The tests that every call makes first: 16, 10 and 11.
 #![tactic(auto)]
+
 ghost use Rattle.std.specs.Prelude.{◌≡◌, length};
 ghost use Rattle.records.specs.Layout.{tasks_size};
 ghost use Rattle.records.specs.Bytes.{decode, right_lengths, tables};

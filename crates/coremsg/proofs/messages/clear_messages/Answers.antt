@@ -1,5 +1,4 @@
 -- `coremsg::messages::clear_messages` meets its contract. Assumes nothing.
-use Prim.Native.Nat.{◌-◌}
 use native.Mathlib.Omega.{arith}
 use Rattle.records.specs.Records.{free_buffer}
 use Rattle.specification.specs.Lookup.{without_messages}

@@ -2,11 +2,9 @@
 use Rattle.records.specs.Layout.{task_count}
 use borrow.Author.Rules.{rules}
 use mathlib.Core.Path.{◌≡◌, refl, ap, ◌∙◌}
-use mathlib.Core.List.{List}
-use Prim.Native.Nat.{ℕ, zero, suc, ◌-◌}
 use native.Mathlib.Numerals.{add-one}
 use native.Mathlib.Omega.{arith}
-use lib.ListN.{set, replicate, length-set}
+use lib.ListN.{length-set}
 use Rattle.ranks.specs.Lists.{numbers_from}
 use Rattle.fresh_tables.proofs.start.priorities.Invariants.{prioritized}
 use Rattle.fresh_tables.proofs.start.priorities.Goals as goal

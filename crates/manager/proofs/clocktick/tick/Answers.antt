@@ -1,5 +1,4 @@
 -- `manager::clocktick::tick` meets its contract. Assumes nothing.
-use Prim.Native.Nat.{◌-◌}
 use native.Mathlib.Omega.{arith}
 use mathlib.Core.Path.{sym, subst, ◌∙◌}
 use Rattle.records.specs.Bytes.{tables}

@@ -1,18 +1,16 @@
 -- `runs::replay::replay_all` meets its contract. Assumes nothing.
-use Prim.Native.Nat.{ℕ, ◌+◌, ◌-◌, ◌≤◌, ◌<◌}
+use Prim.Native.Nat.{◌+◌, ◌≤◌, ◌<◌}
 use native.Mathlib.Omega.{arith}
-use mathlib.Core.Path.{◌≡◌, refl, sym, ap, ◌∙◌}
-use mathlib.Core.List.{List}
+use mathlib.Core.Path.{refl, sym, ap, ◌∙◌}
 use lib.ListN.{length}
 use Rattle.ranks.specs.Table.{slice}
 use Rattle.records.specs.Bytes.{tables}
-use Rattle.records.specs.declared.status.Verdict.{Verdict}
 use Rattle.specification.specs.Answer.{first_status}
-use Rattle.common_refusals.specs.Tested.{table_refusals, Tested}
+use Rattle.common_refusals.specs.Tested.{table_refusals}
 use Rattle.records.proofs.ByteLists.{Slice}
 use Rattle.calllog.specs.CallLog.{record_width, answer_width}
 use Rattle.runs.specs.Replay.{ReplayedAt, replayed_at}
-use Rattle.runs.proofs.Replays.{ReplayedTo, none-replayed, room-for-one, one-more-replayed, all-replayed, next-after}
+use Rattle.runs.proofs.Replays.{none-replayed, room-for-one, one-more-replayed, all-replayed, next-after}
 use Rattle.runs.proofs.TableStatus.{sliced, verdict-stays}
 use Rattle.runs.proofs.replay.replay_all.Goals.{In-loop-at}
 use Rattle.runs.proofs.replay.replay_all.Goals as goal

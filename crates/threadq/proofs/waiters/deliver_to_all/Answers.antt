@@ -1,5 +1,4 @@
 -- `threadq::waiters::deliver_to_all` meets its contract. Assumes nothing.
-use Prim.Native.Nat.{◌-◌}
 use native.Mathlib.Omega.{arith}
 use Rattle.records.specs.Records.{fresh_task}
 use Rattle.specification.specs.Lookup.{without_waiters}

@@ -3,7 +3,7 @@
 -- such answers go on. No contract can say which bytes the system hands over, which answer it gives, or that it was asked at all: code that
 -- made an answer up would meet `ReadMore` and `Fills` too. That `read_behind` asks the system, with that descriptor and for bytes behind
 -- the first `n`, is read in its body and in `Source::read`, a few lines, and shown by runs.
-use Rattle.std.specs.Prelude.{ℕ, zero, suc, ◌+◌, ◌-◌, ◌≤◌, ◌≡◌, true, false, List, length, take, ℤ, pos, negsuc}
+use Rattle.std.specs.Prelude.{IsUtf8, ℕ, zero, suc, ◌+◌, ◌-◌, ◌≤◌, ◌≡◌, true, false, List, length, take, ℤ, pos, negsuc}
 use Rattle.std.specs.Fd.{file_raw_fd}
 use Rattle.streams.specs.declared.reading.Input.{Input}
 use Rattle.streams.specs.declared.reading.Filled.{Filled}
@@ -15,11 +15,20 @@ use Rattle.streams.specs.declared.reading.Read.TheVariants.{More, Ended, Failed}
 abbrev pub standard_input : Input
 standard_input = record { fd = pos 0 }
 
--- The descriptor of what is read, by its number: standard input's, or a file's. Where a file could not be opened it is -1, which no file has.
+-- what stands for the descriptor of a file that could not be opened: -1, which no file has
+abbrev pub not_opened : Input
+not_opened = record { fd = negsuc 0 }
+
+-- the descriptor of what is read, by its number
 abbrev pub input_of : Source → Input
 input_of (Standard s) = standard_input
 input_of (Opened file) = record { fd = file_raw_fd file }
-input_of (NotOpened error) = record { fd = negsuc 0 }
+input_of (NotOpened error) = not_opened
+
+-- What is read where the file at a path was to be opened. No contract can say which file the system opens; a path that is not UTF-8 text is
+-- none that can be.
+abbrev pub OpenedAt : (path : List ℕ) → Input → Type 0
+OpenedAt path from = (IsUtf8 path → ⊥) → from ≡ not_opened
 
 -- what a call that is handed `n` bytes may answer: -1, or how many bytes it moved, at most `n`
 abbrev pub Moved : ℕ → ℤ → Type 0

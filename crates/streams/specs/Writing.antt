@@ -10,7 +10,7 @@ use Rattle.streams.specs.declared.writing.Output.{Output}
 abbrev pub standard_output : Output
 standard_output = record { fd = pos 1 }
 
--- the descriptor of what is written, by its number
+-- The descriptor of what is written, by its number. Nothing but standard output is written; that its number is 1 is what `descriptor` proves.
 abbrev pub output_of : Stdout → Output
 output_of s = standard_output
 

@@ -1,7 +1,7 @@
 // Bytes read into a buffer until it is full.
 ghost use Rattle.std.specs.Prelude.{◌≡◌, ◌-◌, ◌≤◌, length, IfOk};
 ghost use Rattle.std.specs.Io.{ReadsAtMost};
-ghost use Rattle.streams.specs.Filling.{Moved, standard_input, input_of, ReadBehind, after_read, ReadMore, Fills};
+ghost use Rattle.streams.specs.Filling.{Moved, standard_input, input_of, OpenedAt, ReadBehind, after_read, ReadMore, Fills};
 
 use crate::system::System;
 use std::fs::File;
@@ -29,8 +29,10 @@ pub fn standard_input(system: &System) -> Source
     Source::Standard(system.stdin())
 }
 
-// Opens the file at a path, which is UTF-8 text.
-pub fn open(system: &System, path: &[u8]) -> Source {
+// Opens the file at a path. One that is not UTF-8 text can't be opened.
+pub fn open(system: &System, path: &[u8]) -> Source
+    ensures { OpenedAt path.now (input_of result) }
+{
     match str::from_utf8(path) {
         Ok(name) => match File::open(system.runtime(), name) {
             Ok(file) => Source::Opened(file),

@@ -1,4 +1,6 @@
 // What the system is asked through.
+ghost use Rattle.std.specs.Prelude.{◌≡◌};
+
 use std::cell::Cell;
 use std::io;
 use std::io::{Stderr, Stdin, Stdout};
@@ -11,14 +13,18 @@ pub struct System {
 }
 
 impl System {
-    pub fn new(rt: HostRuntime) -> System {
+    pub fn new(rt: HostRuntime) -> System
+        ensures { result.rt ≡ rt }
+    {
         System {
             rt,
             error: Cell::new(io::Error::from_raw_os_error(0)),
         }
     }
 
-    pub fn runtime(&self) -> &HostRuntime {
+    pub fn runtime(&self) -> &HostRuntime
+        ensures { result.now ≡ self.now.rt }
+    {
         &self.rt
     }
 

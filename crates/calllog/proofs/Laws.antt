@@ -1,170 +1,144 @@
--- Laws of the tests and the numbers of `specs/CallLog.antt`. Assumes nothing.
-use Prim.Native.Nat.{ℕ, zero, suc, ◌+◌, ◌≤◌, ◌<◌, min}
+-- Laws of `specs/CallLog.antt`. Assumes nothing.
+use Prim.Native.Nat.{ℕ, zero, suc, ◌+◌, ◌≤◌, ◌<◌, ◌-◌, min}
 use native.Mathlib.Nat.{add-zero}
 use native.Mathlib.Omega.{arith}
-use mathlib.Core.Path.{◌≡◌, refl, sym, ap, ◌∙◌}
-use mathlib.Core.Bool.{Bool, false, not, ◌&&◌, ◌||◌, and_assoc, and-true}
-use mathlib.Core.List.{List, [], ◌∷◌, map}
-use lib.Bits.{bit_and}
+use mathlib.Core.Path.{◌≡◌, refl, sym, ap, subst, ◌∙◌}
+use mathlib.Core.Bool.{Bool, true, false, ◌&&◌, ◌||◌, and_assoc, and-true}
+use mathlib.Core.List.{List, [], ◌∷◌}
 use lib.Dec.{eqb, leb}
-use lib.ListN.{length, get_or, take, drop, get_or-map, get_or-eq_default, length-take, length-drop}
-use lib.Seq.{drop-cons, take_all}
+use lib.ListN.{length, take, drop, length-drop}
+use lib.Seq.{drop-drop, take_all}
 use borrow.Author.Tests.{eq-eqb, ne_eqb, le-ltb, lt-ltb}
 use Rattle.std.specs.Prelude.{if◌then◌else◌}
-use Rattle.ranks.specs.Lists.{all_true, all_zero}
+use Rattle.std.proofs.lemmas.List.{take_min}
+use Rattle.ranks.specs.Lists.{all_zero}
 use Rattle.ranks.specs.Table.{slice, byte}
-use Rattle.ranks.proofs.Lists.{all_cons, all_nil, zeros-cons, zeros-nil}
+use Rattle.ranks.proofs.Lists.{all_cons, all_nil}
 use Rattle.records.specs.Layout.{capacity}
 use Rattle.octets.specs.LittleEndian.{from_little_endian}
 use Rattle.octets.proofs.ZeroBytes.{zero_number}
-use Rattle.calllog.specs.declared.call.LogResult.TheVariants.{Malformed, End}
-use Rattle.calllog.specs.CallLog.{message_place, record_width, Field, operation, caller, option, size, id, ticks, limit, max_size, message, bytes_of, message_of, ◌of◌, rows, row_of, names, bits_in, bits_of, keeps_row, call_with, call_in, read_record, read_at, place_after}
-
--- ---- Numbers in fields
+use Rattle.calllog.specs.declared.call.Call.{Call}
+use Rattle.calllog.specs.declared.call.LogResult.{LogResult}
+use Rattle.calllog.specs.declared.call.LogResult.TheVariants.{WellFormed, Malformed, End}
+use Rattle.calllog.specs.CallLog.{message_place, record_width, Field, caller, option, size, id, ticks, limit, max_size, reserved, message, bytes_of, message_of, ◌of◌, names, row_of, keeps_row, call_with, call_in, read_record, read_at, place_after}
 
 -- a number of one byte
-pub one_byte : (k : ℕ) (r : List ℕ) → byte k r ≡ from_little_endian (slice k 1 r)
+pub one_byte : (k : ℕ) (r : List ℕ) → from_little_endian (slice k 1 r) ≡ byte k r
 unfolding slice from_little_endian
 one_byte zero [] = refl
-one_byte zero (b ∷ r) = sym (add-zero b)
+one_byte zero (b ∷ r) = add-zero b
 one_byte (suc k) [] = refl
 one_byte (suc k) (b ∷ r) = one_byte k r
 
-zero-byte : (k : ℕ) (r : List ℕ) → eqb (byte k r) 0 ≡ all_zero (slice k 1 r)
-zero-byte k r = ap (λ (n : ℕ). eqb n 0) (one_byte k r) ∙ zero_number (slice k 1 r)
-
-two-zeros : (k : ℕ) (r : List ℕ) → suc k < length r → eqb (byte k r) 0 && eqb (byte (suc k) r) 0 ≡ all_zero (slice k 2 r)
-unfolding slice
-two-zeros k r h =
-    sym (ap (λ (l : List ℕ). all_zero (take 2 l)) (drop-cons r k 0 (omega arith) ∙ ap (λ (l : List ℕ). byte k r ∷ l) (drop-cons r (suc k) 0 h))
-    ∙ simp (zeros-cons, zeros-nil, and-true))
-
--- ---- The rows
-
--- every row of the code at once: the bits of the definition's rows, computed
-pub row_at : (k : ℕ) → get_or (map bits_of rows) k 0 ≡ bits_of (row_of k)
-unfolding row_of bits_of bits_in names
-row_at k = get_or-map bits_of rows k []
-
-pub row-beyond : (k : ℕ) → 11 ≤ k → 0 ≡ bits_of (row_of k)
-unfolding rows row_of bits_of bits_in names
-row-beyond k h = ap bits_of (sym (get_or-eq_default rows [] h))
-
--- whether a row has a field's bit is whether it names the field: all rows at once, computed
-abbrev has : (bits bit : ℕ) → Bool
-has bits bit = not (eqb (bit_and bits bit) 0)
-
-bit-named : (field : Field) (bit k : ℕ) → map (λ (row : List Field). has (bits_of row) bit) rows ≡ map (λ (row : List Field). names row field) rows
-    → has (bits_of (row_of k)) bit ≡ names (row_of k) field
-unfolding row_of names bits_of bits_in
-bit-named field bit k e =
-    sym (get_or-map (λ (row : List Field). has (bits_of row) bit) rows k []) ∙ ap (λ (l : List Bool). get_or l k false) e
-    ∙ get_or-map (λ (row : List Field). names row field) rows k []
-
 -- ---- A record that keeps its row
 
--- the code's tests, one after the other, are the definition's
-in_order : (a b c d e f g h i j k : Bool)
-    → (a && b && c && d && e && f && g && h && i && j && k) ≡ all_true (all_true (a ∷ b ∷ c ∷ d ∷ e ∷ f ∷ g ∷ h ∷ []) ∷ i ∷ j ∷ k ∷ [])
-in_order a b c d e f g h i j k = simp (all_cons, all_nil, and_assoc, and-true)
-
 module _ (r : List ℕ) (whole : length r ≡ record_width) where
-  to-message : message_of r ≡ bytes_of message r
+  to-end : bytes_of message r ≡ message_of r
   unfolding slice
-  to-message = sym (take_all capacity (message_of r) (omega (arith, length-drop message_place r)))
+  to-end = take_all capacity (message_of r) (omega (arith, length-drop message_place r))
 
-  zero-at : (n at : ℕ) → n ≡ from_little_endian (slice at 4 r) → eqb n 0 ≡ all_zero (slice at 4 r)
-  zero-at n at e = ap (λ (m : ℕ). eqb m 0) e ∙ zero_number (slice at 4 r)
-
-  -- the code's tests of a record
-  module _ (k row : ℕ) (e : row ≡ bits_of (row_of k)) (i t : ℕ) (p : i ≡ from_little_endian (slice 4 4 r)) (q : t ≡ from_little_endian (slice 8 4 r))
-      (m : Bool) (n : m ≡ all_zero (message_of r)) (z : Bool) (o : z ≡ all_zero (drop (byte 3 r) (message_of r))) where
-    bit_is : (field : Field) (bit : ℕ) → map (λ (row : List Field). has (bits_of row) bit) rows ≡ map (λ (row : List Field). names row field) rows
-        → has row bit ≡ names (row_of k) field
-    bit_is field bit same = ap (λ (b : ℕ). has b bit) e ∙ bit-named field bit k same
-
-    pub keeps : ((has row 1 || eqb (byte 1 r) 0) && (has row 2 || eqb (byte 2 r) 0) && (has row 4 || eqb (byte 3 r) 0) && (has row 8 || eqb i 0)
-        && (has row 16 || eqb t 0) && (has row 32 || eqb (byte 12 r) 0) && (has row 64 || eqb (byte 13 r) 0) && (has row 128 || m)
-        && (eqb (byte 14 r) 0 && eqb (byte 15 r) 0) && leb (byte 3 r) capacity && z) ≡ keeps_row (row_of k) r
-    unfolding keeps_row rows names bits_of bits_in
-    keeps =
-        in_order _ _ _ _ _ _ _ _ _ _ _
-        ∙ (λ j. all_true
-        (all_true
-        ((bit_is caller 1 refl j || zero-byte 1 r j) ∷ (bit_is option 2 refl j || zero-byte 2 r j) ∷ (bit_is size 4 refl j || zero-byte 3 r j)
-        ∷ (bit_is id 8 refl j || zero-at i 4 p j) ∷ (bit_is ticks 16 refl j || zero-at t 8 q j) ∷ (bit_is limit 32 refl j || zero-byte 12 r j)
-        ∷ (bit_is max_size 64 refl j || zero-byte 13 r j) ∷ (bit_is message 128 refl j || (n ∙ ap all_zero to-message) j) ∷ [])
-        ∷ two-zeros 14 r (omega arith) j ∷ leb (one_byte 3 r j) capacity
-        ∷ (o ∙ (λ j. all_zero (drop (one_byte 3 r j) (to-message j)))) j ∷ []))
-
--- ---- The call of an operation
-
--- of operation k, with the numbers that were read
-pub call_at : (r : List ℕ) (k i t : ℕ) → byte 0 r ≡ k → i ≡ from_little_endian (slice 4 4 r) → t ≡ from_little_endian (slice 8 4 r)
-    → call_with k (byte 1 r) (byte 2 r) (byte 3 r) i t (byte 12 r) (byte 13 r) ≡ call_in r
-unfolding call_in
-call_at r k i t e p q =
-    λ j. call_with ((sym e ∙ one_byte 0 r) j) (one_byte 1 r j) (one_byte 2 r j) (one_byte 3 r j) (p j) (q j) (one_byte 12 r j) (one_byte 13 r j)
-
--- none of the operations 1 to 10, as a match says it
-abbrev pub Another : ℕ → Type 0
-Another o =
-    (((((((((Unit {0} × (o ≡ 1 → ⊥)) × (o ≡ 2 → ⊥)) × (o ≡ 3 → ⊥)) × (o ≡ 4 → ⊥)) × (o ≡ 5 → ⊥)) × (o ≡ 6 → ⊥)) × (o ≡ 7 → ⊥))
-    × (o ≡ 8 → ⊥)) × (o ≡ 9 → ⊥)) × (o ≡ 10 → ⊥)
-
-another : (o caller option size id ticks limit max_size : ℕ) → Another o → call_with o caller option size id ticks limit max_size ≡ Malformed
-unfolding call_with
-another o caller option size id ticks limit max_size ((((((((((_, not-1), not-2), not-3), not-4), not-5), not-6), not-7), not-8), not-9), not-10) =
-    simp (
-      ne_eqb o 1 not-1,
-      ne_eqb o 2 not-2,
-      ne_eqb o 3 not-3,
-      ne_eqb o 4 not-4,
-      ne_eqb o 5 not-5,
-      ne_eqb o 6 not-6,
-      ne_eqb o 7 not-7,
-      ne_eqb o 8 not-8,
-      ne_eqb o 9 not-9,
-      ne_eqb o 10 not-10,
-    )
-
-pub call-other : (r : List ℕ) → Another (byte 0 r) → call_in r ≡ Malformed
-unfolding call_in
-call-other r h =
-    ap (λ (n : ℕ). call_with n (caller of r) (option of r) (size of r) (id of r) (ticks of r) (limit of r) (max_size of r)) (sym (one_byte 0 r))
-    ∙ another (byte 0 r) (caller of r) (option of r) (size of r) (id of r) (ticks of r) (limit of r) (max_size of r) h
+  -- the code's tests, one after the other, are the definition's
+  pub keeps : (row : List Field) →
+      ((((((((((names row caller || eqb (caller of r) 0) && (names row option || eqb (option of r) 0)) && (names row size || eqb (size of r) 0))
+      && (names row id || eqb (id of r) 0)) && (names row ticks || eqb (ticks of r) 0)) && (names row limit || eqb (limit of r) 0)) && (names row max_size || eqb (max_size of r) 0))
+      && (names row message || all_zero (message_of r))) && eqb (reserved of r) 0) && leb (size of r) capacity)
+      && all_zero (drop (message_place + (size of r)) r) ≡ keeps_row row r
+  unfolding keeps_row
+  keeps row = simp (zero_number, to-end, drop-drop, all_cons, all_nil, and_assoc, and-true)
 
 -- ---- What a record says
 
-pub record-kept : (r : List ℕ) → length r ≡ record_width → (b : Bool) (k : ℕ) → k ≡ byte 0 r → b ≡ keeps_row (row_of k) r
-    → read_record r ≡ (if b then call_in r else Malformed)
+pub another_length : (r : List ℕ) → (length r ≡ record_width → ⊥) → read_record r ≡ Malformed
 unfolding read_record
-record-kept r whole b k e p =
-    ap (λ (c : Bool). if c then call_in r else Malformed)
-    (ap (λ (c : Bool). c && keeps_row (row_of (operation of r)) r) (eq-eqb (length r) record_width whole)
-    ∙ ap (λ (n : ℕ). keeps_row (row_of n) r) (sym (e ∙ one_byte 0 r)) ∙ sym p)
+another_length r h = rw (ne_eqb (length r) record_width h) refl
+
+either_way : (b : Bool) → (if b then Malformed else Malformed) ≡ Malformed
+either_way true = refl
+either_way false = refl
+
+pub another_operation : (r : List ℕ) → (1 ≤ byte 0 r → 10 < byte 0 r) → read_record r ≡ Malformed
+unfolding read_record call_in call_with
+another_operation r h =
+    let not : (k : ℕ) → 1 ≤ k → k ≤ 10 → eqb (byte 0 r) k ≡ false = λ k a b. ne_eqb (byte 0 r) k (λ e. omega arith) in
+    rw (
+      one_byte 0 r,
+      not 1 (omega arith) (omega arith),
+      not 2 (omega arith) (omega arith),
+      not 3 (omega arith) (omega arith),
+      not 4 (omega arith) (omega arith),
+      not 5 (omega arith) (omega arith),
+      not 6 (omega arith) (omega arith),
+      not 7 (omega arith) (omega arith),
+      not 8 (omega arith) (omega arith),
+      not 9 (omega arith) (omega arith),
+      not 10 (omega arith) (omega arith),
+    ) (either_way _)
+
+module _ (r : List ℕ) (whole : length r ≡ record_width) (k : ℕ) (e : k ≡ byte 0 r) where
+  pub not_kept : keeps_row (row_of k) r ≡ false → read_record r ≡ Malformed
+  unfolding read_record
+  not_kept h = rw (eq-eqb (length r) record_width whole, one_byte 0 r, ← e, h) refl
+
+  pub kept : keeps_row (row_of k) r ≡ true → read_record r ≡ call_with k (caller of r) (option of r) (size of r) (id of r) (ticks of r) (limit of r) (max_size of r)
+  unfolding read_record call_in
+  kept h = rw (eq-eqb (length r) record_width whole, one_byte 0 r, ← e, h) refl
+
+-- a result that is not the end
+data NotEnd : LogResult → Type 0 where
+  well-formed : (c : Call) → NotEnd (WellFormed c)
+  malformed : NotEnd Malformed
+
+either : (b : Bool) (x y : LogResult) → NotEnd x → NotEnd y → NotEnd (if b then x else y)
+either true x y p q = p
+either false x y p q = q
+
+call_or : (b : Bool) (c : Call) (y : LogResult) → NotEnd y → NotEnd (if b then WellFormed c else y)
+call_or b c y q = either b (WellFormed c) y (well-formed c) q
+
+call_said : (o caller option size id ticks limit max_size : ℕ) → NotEnd (call_with o caller option size id ticks limit max_size)
+unfolding call_with
+call_said o _ _ _ _ _ _ _ =
+    call_or (eqb o 1) _ _ (call_or (eqb o 2) _ _ (call_or (eqb o 3) _ _ (call_or (eqb o 4) _ _ (call_or (eqb o 5) _ _
+    (call_or (eqb o 6) _ _ (call_or (eqb o 7) _ _ (call_or (eqb o 8) _ _ (call_or (eqb o 9) _ _ (call_or (eqb o 10) _ _ malformed)))))))))
+
+-- no record says the end
+not_end : (r : List ℕ) → NotEnd (read_record r)
+unfolding read_record call_in
+not_end r = either _ _ _ (call_said _ _ _ _ _ _ _ _) malformed
+
+end-is : NotEnd End → ⊥
+end-is h = elim h [ ]
+
+pub ruleset what_is_said = (another_length, another_operation, not_kept, kept)
 
 -- ---- What a reader finds
 
 module _ (log : List ℕ) (at : ℕ) where
-  pub read-end : length log ≤ at → read_at log at ≡ End
+  pub read_end : length log ≤ at → read_at log at ≡ End
   unfolding read_at
-  read-end h = simp (le-ltb at (length log) h)
+  read_end h = rw (le-ltb at (length log) h) refl
 
-  pub read_short : at < length log → length log < at + record_width → read_at log at ≡ Malformed
-  unfolding read_at read_record slice
-  read_short h g =
-      let e : length (take record_width (drop at log)) ≡ record_width → ⊥ = (λ e. omega (arith, length-take record_width (drop at log), length-drop at log)) in
-      simp (lt-ltb at (length log) h, ne_eqb (length (take record_width (drop at log))) record_width e)
-
-  pub read_whole : at + record_width ≤ length log → (n : ℕ) → n ≡ record_width → read_record (take n (drop at log)) ≡ read_at log at
-  unfolding read_at slice
-  read_whole h n e = ap (λ (m : ℕ). read_record (take m (drop at log))) e ∙ simp (lt-ltb at (length log) (omega arith))
-
-  pub place_end : length log ≤ at → at ≡ place_after log at
+  pub place_end : length log ≤ at → place_after log at ≡ at
   unfolding place_after
-  place_end h = simp (le-ltb at (length log) h)
+  place_end h = rw (le-ltb at (length log) h) refl
 
-  pub place_inside : at < length log → (n : ℕ) → n ≡ min (at + record_width) (length log) → n ≡ place_after log at
-  unfolding place_after
-  place_inside h n e = simp (lt-ltb at (length log) h) e
+  module _ (h : at < length log) where
+    pub read_inside : read_at log at ≡ read_record (slice at record_width log)
+    unfolding read_at
+    read_inside = rw (lt-ltb at (length log) h) refl
+
+    pub not_at_end : read_at log at ≡ End → ⊥
+    not_at_end e = end-is (subst NotEnd (sym read_inside ∙ e) (not_end (slice at record_width log)))
+
+    pub place_inside : place_after log at ≡ min (at + record_width) (length log)
+    unfolding place_after
+    place_inside = rw (lt-ltb at (length log) h) refl
+
+    -- the bytes up to the next place
+    pub part_inside : take (place_after log at - at) (drop at log) ≡ slice at record_width log
+    unfolding slice
+    part_inside =
+        let size : place_after log at - at ≡ min record_width (length (drop at log)) = omega (arith, place_inside, length-drop at log) in
+        ap (λ (n : ℕ). take n (drop at log)) size ∙ take_min record_width (drop at log)
+
+pub ruleset what_is_found = (read_end, place_end, read_inside, not_at_end, place_inside, part_inside)

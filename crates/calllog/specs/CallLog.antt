@@ -1,5 +1,5 @@
 -- Document 01, "The call log": what the bytes of a log say.
-use Rattle.std.specs.Prelude.{ℕ, ◌+◌, ◌-◌, ◌*◌, ◌/◌, min, Bool, false, ◌&&◌, ◌||◌, List, [], ◌∷◌, ◌++◌, map, length, get_or, drop, replicate, eqb, leb, ltb, if◌then◌else◌}
+use Rattle.std.specs.Prelude.{ℕ, ◌+◌, ◌-◌, ◌/◌, min, Bool, false, ◌&&◌, ◌||◌, List, [], ◌∷◌, ◌++◌, map, length, get_or, drop, replicate, eqb, leb, ltb, if◌then◌else◌}
 use Rattle.ranks.specs.Lists.{all_true, all_zero}
 use Rattle.ranks.specs.Table.{slice}
 use Rattle.records.specs.Layout.{capacity}
@@ -8,7 +8,6 @@ use Rattle.calllog.specs.declared.call.Directive.TheVariants.{Create, Ident, Del
 use Rattle.calllog.specs.declared.call.Call.TheVariants.{By, Tick}
 use Rattle.calllog.specs.declared.call.LogResult.{LogResult}
 use Rattle.calllog.specs.declared.call.LogResult.TheVariants.{WellFormed, Malformed, End}
-use Rattle.calllog.specs.declared.reader.Reading.{Reading}
 
 -- ---- The fields of a record
 
@@ -177,6 +176,10 @@ unfoldable pub record_count : (n : ℕ) → ℕ
 record_count n = (n + (record_width - 1)) / record_width
 
 -- what a reader yields, and the place that it moves on to
+pub record Reading : Type 0 where
+  pub result : LogResult
+  pub next : ℕ
+
 abbrev pub reading_at : (log : List ℕ) (at : ℕ) → Reading
 reading_at log at = record { result = read_at log at; next = place_after log at }
 
@@ -190,14 +193,3 @@ answer_width = 16
 unfoldable pub answer_bytes : (status first_byte value mask : ℕ) → List ℕ
 answer_bytes status first_byte value mask =
     status ∷ first_byte ∷ 0 ∷ 0 ∷ to_little_endian 4 value ++ to_little_endian 4 mask ++ replicate 4 0
-
--- ---- For the code
-
--- the bits of those of the fields that a row names: `bit` for the first field, twice as much for the second and so on
-unfoldable pub bits_in : (row fields : List Field) (bit : ℕ) → ℕ
-bits_in row [] bit = 0
-bits_in row (field ∷ rest) bit = (if names row field then bit else 0) + bits_in row rest (bit * 2)
-
--- a row as a number
-unfoldable pub bits_of : List Field → ℕ
-bits_of row = bits_in row fields 1

@@ -1,2 +1,4 @@
 pub mod CallLog
 pub mod LogCases
+pub mod Operations
+pub mod Reader

@@ -4,8 +4,7 @@ use Rattle.calllog.specs.declared.call.Directive.TheVariants.{Create, Ident, Del
 use Rattle.calllog.specs.declared.call.Call.TheVariants.{By, Tick}
 use Rattle.calllog.specs.declared.call.LogResult.{LogResult}
 use Rattle.calllog.specs.declared.call.LogResult.TheVariants.{WellFormed, Malformed, End}
-use Rattle.calllog.specs.declared.reader.Reading.{Reading}
-use Rattle.calllog.specs.CallLog.{record_width, read_record, reading_at, answer_bytes}
+use Rattle.calllog.specs.CallLog.{record_width, read_record, Reading, reading_at, answer_bytes}
 
 -- ---- Records
 

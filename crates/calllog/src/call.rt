@@ -1,7 +1,7 @@
 // Calls, and what reading a log yields.
 
 // A directive with its numbers. A message stays in the log: it is the first size bytes of the record's message field.
-#[derive(Clone, Copy)]
+#[derive(Clone, Copy, Debug, PartialEq, Eq)]
 pub enum Directive {
     Create {
         name: u32,
@@ -42,14 +42,14 @@ pub enum Directive {
 }
 
 // A directive by its caller, or a tick.
-#[derive(Clone, Copy)]
+#[derive(Clone, Copy, Debug, PartialEq, Eq)]
 pub enum Call {
     By { caller: u8, directive: Directive },
     Tick,
 }
 
 // "Reading a log yields a well-formed call with its kind and data, or a malformed mark"; at its end the end.
-#[derive(Clone, Copy)]
+#[derive(Clone, Copy, Debug, PartialEq, Eq)]
 pub enum LogResult {
     WellFormed(Call),
     Malformed,

@@ -1,12 +1,15 @@
-// What stands at a place of a log.
-ghost use Rattle.std.specs.Prelude.{◌≡◌, length, drop};
-ghost use Rattle.ranks.specs.Lists.{all_zero};
-ghost use Rattle.calllog.specs.CallLog.{record_width, message_of, row_of, keeps_row, call_in, read_record, read_at, place_after, record_count};
+// What a record of a log says, and what stands at a place of a log.
+ghost use Rattle.std.specs.Prelude.{◌≡◌};
+ghost use Rattle.calllog.specs.declared.call.LogResult.TheVariants.{WellFormed};
+ghost use Rattle.calllog.specs.CallLog.{message_of, row_of, keeps_row, call_with, read_record, read_at, place_after, record_count};
+ghost use Rattle.calllog.specs.Operations.{number_of, numbers_in};
 
 use crate::call::{Call, Directive, LogResult};
-use crate::layout::{MESSAGE_PLACE, RECORD_WIDTH};
-use crate::rows::{CALLER, ID, LIMIT, MAX_SIZE, MESSAGE, OPTION, SIZE, TICKS, row_of};
-use octets::numbers::{read_u32, wide};
+use crate::layout::{
+    CALLER, ID, LIMIT, MAX_SIZE, MESSAGE, OPERATION, OPTION, RECORD_WIDTH, RESERVED, SIZE, TICKS,
+};
+use crate::operation::Operation;
+use octets::numbers::{read_u16, read_u32};
 use octets::zeros::zeros_from;
 use records::layout::CAPACITY;
 
@@ -14,148 +17,142 @@ use records::layout::CAPACITY;
 pub fn message_field(part: &[u8]) -> &[u8]
     ensures { result.now ≡ message_of part.now }
 {
-    let n = part.len();
-    if n < MESSAGE_PLACE {
-        return &part[n..];
-    }
-    &part[MESSAGE_PLACE..]
+    part.get(MESSAGE..).unwrap_or(&[])
 }
 
-// "message, zero after its size"
-fn zero_after(r: &[u8], size: u8) -> bool
-    ensures { result ≡ all_zero (drop size (message_of r.now)) }
-{
-    zeros_from(r, MESSAGE_PLACE + wide(size))
+// The numbers in a record's fields.
+#[derive(Clone, Copy)]
+struct Numbers {
+    caller: u8,
+    option: u8,
+    size: u8,
+    id: u32,
+    ticks: u32,
+    limit: u8,
+    max_size: u8,
+    reserved: u16,
 }
 
-// "Anything else not zero, a size above 120" is malformed: a field that the row does not name is zero, and so is what follows the message.
-fn keeps_row(operation: usize, r: &[u8]) -> bool
-    requires { length r.now ≡ record_width }
-    ensures { result ≡ keeps_row (row_of operation) r.now }
+#[tactic(auto, using(crate::proofs::Laws::one_byte))]
+fn numbers_in(bytes: &[u8; RECORD_WIDTH]) -> Numbers
+    ensures { result ≡ numbers_in bytes.now }
 {
-    let row = row_of(operation);
-    let size = r[3];
-    (((row & CALLER) != 0) | (r[1] == 0))
-        & (((row & OPTION) != 0) | (r[2] == 0))
-        & (((row & SIZE) != 0) | (size == 0))
-        & (((row & ID) != 0) | (read_u32(r, 4) == 0))
-        & (((row & TICKS) != 0) | (read_u32(r, 8) == 0))
-        & (((row & LIMIT) != 0) | (r[12] == 0))
-        & (((row & MAX_SIZE) != 0) | (r[13] == 0))
-        & (((row & MESSAGE) != 0) | zeros_from(r, MESSAGE_PLACE))
-        & ((r[14] == 0) & (r[15] == 0))
-        & (size <= CAPACITY as u8)
-        & zero_after(r, size)
-}
-
-// The call of a record's operation.
-fn call_in(r: &[u8]) -> LogResult
-    requires { length r.now ≡ record_width }
-    ensures { result ≡ call_in r.now }
-{
-    let operation = r[0];
-    let caller = r[1];
-    let option = r[2];
-    let size = r[3];
-    let id = read_u32(r, 4);
-    let ticks = read_u32(r, 8);
-    let limit = r[12];
-    let max_size = r[13];
-    match operation {
-        1 => LogResult::WellFormed(Call::By {
-            caller,
-            directive: Directive::Create {
-                name: id,
-                limit,
-                max_size,
-                attributes: option,
-            },
-        }),
-        2 => LogResult::WellFormed(Call::By {
-            caller,
-            directive: Directive::Ident {
-                name: id,
-                share: ticks,
-            },
-        }),
-        3 => LogResult::WellFormed(Call::By {
-            caller,
-            directive: Directive::Delete { id },
-        }),
-        4 => LogResult::WellFormed(Call::By {
-            caller,
-            directive: Directive::Send { id, size },
-        }),
-        5 => LogResult::WellFormed(Call::By {
-            caller,
-            directive: Directive::Urgent { id, size },
-        }),
-        6 => LogResult::WellFormed(Call::By {
-            caller,
-            directive: Directive::Broadcast { id, size },
-        }),
-        7 => LogResult::WellFormed(Call::By {
-            caller,
-            directive: Directive::Receive { id, option, ticks },
-        }),
-        8 => LogResult::WellFormed(Call::By {
-            caller,
-            directive: Directive::Pending { id },
-        }),
-        9 => LogResult::WellFormed(Call::By {
-            caller,
-            directive: Directive::Flush { id },
-        }),
-        10 => LogResult::WellFormed(Call::Tick),
-        _ => LogResult::Malformed,
+    Numbers {
+        caller: bytes[CALLER],
+        option: bytes[OPTION],
+        size: bytes[SIZE],
+        id: read_u32(bytes, ID),
+        ticks: read_u32(bytes, TICKS),
+        limit: bytes[LIMIT],
+        max_size: bytes[MAX_SIZE],
+        reserved: read_u16(bytes, RESERVED),
     }
 }
 
-// What a whole record says.
-fn decode_record(r: &[u8]) -> LogResult
-    requires { length r.now ≡ record_width }
-    ensures { result ≡ read_record r.now }
+// "Anything else not zero, a size above 120" is malformed: a field that the operation's row does not name is zero, and so is what follows the
+// message. The tests have no branch between them.
+#[tactic(auto, using(crate::proofs::Laws::keeps))]
+fn keeps_row(operation: Operation, numbers: Numbers, bytes: &[u8; RECORD_WIDTH]) -> bool
+    requires { numbers ≡ numbers_in bytes.now }
+    ensures { result ≡ keeps_row (row_of (number_of operation)) bytes.now }
 {
-    let operation = wide(r[0]);
-    if !keeps_row(operation, r) {
+    let row = operation.row();
+    (row.caller | (numbers.caller == 0))
+        & (row.option | (numbers.option == 0))
+        & (row.size | (numbers.size == 0))
+        & (row.id | (numbers.id == 0))
+        & (row.ticks | (numbers.ticks == 0))
+        & (row.limit | (numbers.limit == 0))
+        & (row.max_size | (numbers.max_size == 0))
+        & (row.message | zeros_from(bytes, MESSAGE))
+        & (numbers.reserved == 0)
+        & (usize::from(numbers.size) <= CAPACITY)
+        & zeros_from(bytes, MESSAGE + usize::from(numbers.size))
+}
+
+// The call of an operation with these numbers.
+#[tactic(auto, unfolding(crate::specs::CallLog::call_with))]
+fn call_with(operation: Operation, numbers: Numbers) -> Call
+    ensures { WellFormed result ≡ call_with (number_of operation) numbers.caller numbers.option numbers.size numbers.id numbers.ticks
+        numbers.limit numbers.max_size }
+{
+    let Numbers {
+        caller,
+        option,
+        size,
+        id,
+        ticks,
+        limit,
+        max_size,
+        ..
+    } = numbers;
+    let directive = match operation {
+        Operation::Create => Directive::Create {
+            name: id,
+            limit,
+            max_size,
+            attributes: option,
+        },
+        Operation::Ident => Directive::Ident {
+            name: id,
+            share: ticks,
+        },
+        Operation::Delete => Directive::Delete { id },
+        Operation::Send => Directive::Send { id, size },
+        Operation::Urgent => Directive::Urgent { id, size },
+        Operation::Broadcast => Directive::Broadcast { id, size },
+        Operation::Receive => Directive::Receive { id, option, ticks },
+        Operation::Pending => Directive::Pending { id },
+        Operation::Flush => Directive::Flush { id },
+        Operation::Tick => return Call::Tick,
+    };
+    Call::By { caller, directive }
+}
+
+// What a record says. A part of another length is malformed.
+#[tactic(auto, using(crate::proofs::Laws::what_is_said))]
+pub fn read_record(part: &[u8]) -> LogResult
+    ensures { result ≡ read_record part.now }
+{
+    let Some(bytes) = part.as_array::<RECORD_WIDTH>() else {
+        return LogResult::Malformed;
+    };
+    let Ok(operation) = Operation::try_from(bytes[OPERATION]) else {
+        return LogResult::Malformed;
+    };
+    let numbers = numbers_in(bytes);
+    if !keeps_row(operation, numbers, bytes) {
         return LogResult::Malformed;
     }
-    call_in(r)
+    LogResult::WellFormed(call_with(operation, numbers))
 }
 
-// What stands at a place of a log.
+// What stands at a place of a log: a record, a short last part, or the end.
+#[tactic(auto, using(crate::proofs::Laws::what_is_found))]
 pub fn decode(log: &[u8], at: usize) -> LogResult
     ensures { result ≡ read_at log.now at }
 {
     if log.len() <= at {
         return LogResult::End;
     }
-    if log.len() - at < RECORD_WIDTH {
-        return LogResult::Malformed;
-    }
-    let end = at + RECORD_WIDTH;
-    decode_record(&log[at..end])
+    read_record(&log[at..place_after(log, at)])
 }
 
 // The place after what stands at a place of a log.
+#[tactic(auto, using(crate::proofs::Laws::what_is_found))]
 pub fn place_after(log: &[u8], at: usize) -> usize
     ensures { result ≡ place_after log.now at }
 {
     if log.len() <= at {
         return at;
     }
-    if log.len() - at <= RECORD_WIDTH {
-        return log.len();
-    }
-    at + RECORD_WIDTH
+    log.len().min(at + RECORD_WIDTH)
 }
 
 // How many records a log of n bytes has, a short last part counted.
+#[tactic(auto, unfolding(crate::specs::CallLog::record_count))]
 pub fn record_count(n: usize) -> usize
     ensures { result ≡ record_count n }
 {
-    if n % RECORD_WIDTH == 0 {
-        return n / RECORD_WIDTH;
-    }
-    n / RECORD_WIDTH + 1
+    n.div_ceil(RECORD_WIDTH)
 }

@@ -1,52 +1,69 @@
 // A reader: a log and the place reached in it.
-ghost use Rattle.std.specs.Prelude.{◌≡◌};
-ghost use Rattle.calllog.specs.CallLog.{read_at, place_after, reading_at};
+ghost use Rattle.std.specs.Prelude.{◌≡◌, ◌-◌, length};
+ghost use Rattle.std.specs.Iterator.{at_most};
+ghost use Rattle.calllog.specs.CallLog.{read_at, place_after};
+ghost use Rattle.calllog.specs.Reader.{Reads};
 
 use crate::call::LogResult;
 use crate::decode::{decode, place_after};
 
 // "A reader holds the lent log bytes and the place reached"
-#[derive(Clone, Copy)]
+#[derive(Clone, Copy, Debug, PartialEq, Eq)]
 pub struct LogReader<'a> {
     pub log: &'a [u8],
     pub at: usize,
 }
 
-// What a reader yields, and the place that it moves on to.
-#[derive(Clone, Copy)]
-pub struct Reading {
+// What stands at a place of a log, a record or a short last part, and what it says.
+#[derive(Clone, Copy, Debug, PartialEq, Eq)]
+pub struct LogRecord<'a> {
+    pub bytes: &'a [u8],
     pub result: LogResult,
-    pub next: usize,
 }
 
-// The reader of a log that has reached a place.
-pub fn reader_at<'a>(log: &'a [u8], at: usize) -> LogReader<'a>
-    ensures { result ≡ record { log = log.entry; at = at } }
-{
-    LogReader { log, at }
+impl<'a> LogReader<'a> {
+    // The reader of a log that has reached a place.
+    pub fn at(log: &'a [u8], at: usize) -> LogReader<'a>
+        ensures { result ≡ record { log = log.entry; at = at } }
+    {
+        LogReader { log, at }
+    }
+
+    // What the reader yields: "at or past the end it yields the end", else what stands at its place says.
+    pub fn current(self) -> LogResult
+        ensures { result ≡ read_at self.entry.log.now self.entry.at }
+    {
+        decode(self.log, self.at)
+    }
+
+    // The reader moved on "by 136 bytes, or to the end after a short part".
+    pub fn advanced(self) -> LogReader<'a>
+        ensures { result ≡ record { log = self.entry.log; at = place_after self.entry.log.now self.entry.at } }
+    {
+        LogReader {
+            log: self.log,
+            at: place_after(self.log, self.at),
+        }
+    }
 }
 
-// What the reader yields: "at or past the end it yields the end", else what stands at its place.
-pub fn current<'a>(r: LogReader<'a>) -> LogResult
-    ensures { result ≡ read_at r.entry.log.now r.entry.at }
-{
-    decode(r.log, r.at)
-}
+// The records from the place reached to the end, a short last part among them.
+impl<'a> Iterator for LogReader<'a> {
+    type Item = LogRecord<'a>;
 
-// The reader moved on "by 136 bytes, or to the end after a short part".
-pub fn advanced<'a>(r: LogReader<'a>) -> LogReader<'a>
-    ensures { result ≡ record { log = r.entry.log; at = place_after r.entry.log.now r.entry.at } }
-{
-    let at = place_after(r.log, r.at);
-    LogReader { log: r.log, at }
-}
+    ghost next_gives = { Reads };
 
-// What a reader that has reached a place of a log yields, and the place that it moves on to.
-pub fn read_at(log: &[u8], at: usize) -> Reading
-    ensures { result ≡ reading_at log.now at }
-{
-    let r = reader_at(log, at);
-    let result = current(r);
-    let q = advanced(r);
-    Reading { result, next: q.at }
+    ghost remaining = { λ s. at_most (length s.log.now - s.at) };
+
+    #[tactic(auto, using(crate::proofs::Laws::what_is_found))]
+    fn next(&mut self) -> Option<LogRecord<'a>> {
+        let result = self.current();
+        if result == LogResult::End {
+            return None;
+        }
+        let after = self.advanced();
+        let bytes = &self.log[self.at..after.at];
+        *self = after;
+        Some(LogRecord { bytes, result })
+    }
 }

@@ -33,10 +33,10 @@ at_after i f g d same l m n each one =
 -- ---- A rank step, and the record that it was done for changed after it
 
 module _ (F : ℕ → Position → Position) (i : ℕ) where
-  pub buffer-stepped : (f : Buffer → Buffer) → ((p : Position) (m : Buffer) → f (move_buffer p m) ≡ f m) → (t u v : List ℕ) → length t ≡ pool_size
+  pub buffer_stepped : (f : Buffer → Buffer) → ((p : Position) (m : Buffer) → f (move_buffer p m) ≡ f m) → (t u v : List ℕ) → length t ≡ pool_size
       → records buffer_count buffer_width u ≡ map_with_index (moved buffer_position F) (records buffer_count buffer_width t) → decode_pool v ≡ map_with_index (at_index i f) (decode_pool u)
       → decode_pool v ≡ map_with_index (λ j m. if eqb j i then f m else move_buffer (F j m.position) m) (decode_pool t)
-  buffer-stepped f same t u v l step =
+  buffer_stepped f same t u v l step =
       at_after i f (λ j m. move_buffer (F j m.position) m) free_buffer (λ j m. same (F j m.position) m) (decode_pool t) (decode_pool u) (decode_pool v) (pool-moved F t u l step)
 
   pub task-stepped : (f : Task → Task) → ((p : Position) (w : Task) → f (move_task p w) ≡ f w) → (t u v : List ℕ) → length t ≡ tasks_size
@@ -53,12 +53,12 @@ unfolding decode
 state-is queues pool tasks s eq ep ew = λ i. record { queues = eq i; pool = ep i; tasks = ew i }
 
 -- a task is taken out of its queue and changed, and the queue has a waiter less
-pub task-left : (queues tasks out queues' tasks' : List ℕ) (t slot rank : ℕ) (f : Task → Task) → ((p : Position) (w : Task) → f (move_task p w) ≡ f w) → length tasks ≡ tasks_size
+pub task_left : (queues tasks out queues' tasks' : List ℕ) (t slot rank : ℕ) (f : Task → Task) → ((p : Position) (w : Task) → f (move_task p w) ≡ f w) → length tasks ≡ tasks_size
     → records task_count task_width out ≡ map_with_index (moved task_position (taken_out t slot rank)) (records task_count task_width tasks) → decode_tasks tasks' ≡ map_with_index (at_index t f) (decode_tasks out)
     → decode_queues queues' ≡ map_with_index (at_index slot (λ q. with_waiters (q.waiters - 1) q)) (decode_queues queues)
     → (pool : List ℕ) → decode (tables queues' pool tasks') ≡ leave (decode (tables queues pool tasks)) t slot rank f
 unfolding leave decode
-task-left queues tasks out queues' tasks' t slot rank f same l step one counted pool =
+task_left queues tasks out queues' tasks' t slot rank f same l step one counted pool =
     state-is queues' pool tasks' (leave (decode (tables queues pool tasks)) t slot rank f) counted refl (task-stepped (taken_out t slot rank) t f same tasks out tasks' l step one)
 
 -- ---- The mask of one task

@@ -1,4 +1,5 @@
 pub mod Changed
+pub mod Fields
 pub mod Moves
 pub mod OneTick
 pub mod Room

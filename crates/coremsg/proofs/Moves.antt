@@ -22,11 +22,11 @@ use Rattle.threadq.proofs.TaskHead.{head-written}
 use Rattle.coremsg.proofs.Changed.{task-stepped}
 
 -- a task is put in at the rank, and its head says that it waits
-pub task-entered : (slot k rank ticks : ℕ) (t u v : List ℕ) → k < task_count → length t ≡ tasks_size → (at : ℕ) (h made : TaskHead)
+pub task_entered : (slot k rank ticks : ℕ) (t u v : List ℕ) → k < task_count → length t ≡ tasks_size → (at : ℕ) (h made : TaskHead)
     → records task_count task_width u ≡ map_with_index (moved task_position (inserted k slot rank)) (records task_count task_width t) → at ≡ rank → h ≡ head_of (decode_task_at k u)
     → made ≡ waiting_head (slot + 1) at ticks h → decode_tasks v ≡ map_with_index (at_index k (with_head made)) (decode_tasks u)
     → decode_tasks v ≡ insert_task k slot rank (waiting_at (position_at slot rank) ticks) (decode_tasks t)
-task-entered slot k rank ticks t u v hk l at h made put same_rank read makes written =
+task_entered slot k rank ticks t u v hk l at h made put same_rank read makes written =
     let queue : slot + 1 ≡ suc slot = omega arith in
     task-stepped (inserted k slot rank) k (waiting_at (position_at slot rank) ticks) (λ p w. refl) t u v l put
     (head-written u v k hk h made (waiting_head (slot + 1) at ticks) (waiting_at (position_at slot rank) ticks)

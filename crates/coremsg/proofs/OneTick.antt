@@ -1,23 +1,21 @@
 -- One task's tick, as the code comes to it. Assumes nothing.
-use Prim.Native.Nat.{ℕ, pred, ◌-◌, ◌≤◌, ◌<◌}
-use mathlib.Core.Path.{◌≡◌, refl, sym, ap, ◌∙◌, subst}
-use mathlib.Core.Bool.{Bool, true, false, ◌&&◌}
+use Prim.Native.Nat.{ℕ, pred, ◌-◌, ◌<◌}
+use mathlib.Core.Path.{◌≡◌, refl, sym, ap, ◌∙◌}
+use mathlib.Core.Bool.{true, false}
 use mathlib.Core.List.{List}
-use lib.Dec.{eqb}
 use Rattle.std.specs.Prelude.{if◌then◌else◌}
 use Rattle.ranks.specs.Lists.{map_with_index}
-use Rattle.ranks.proofs.Tests.{both}
-use Rattle.records.specs.Layout.{slot_count, task_count}
-use Rattle.records.specs.Records.{Task, State, waiting_state}
+use Rattle.records.specs.Layout.{task_count}
+use Rattle.records.specs.Records.{Task, State}
 use Rattle.records.specs.Bytes.{tables, decode_queues, decode_pool, decode_tasks, decode, decode_task_at}
 use Rattle.records.specs.Changes.{at_index, ready_with, with_ticks}
-use Rattle.records.specs.TaskHeads.{head_of}
+use Rattle.records.specs.TaskHeads.{head_of, with_head, ticked_head}
+use Rattle.threadq.proofs.TaskHead.{head-written}
 use Rattle.records.specs.declared.task.TaskHead.{TaskHead}
 use Rattle.records.specs.Status.{TIMEOUT}
 use Rattle.records.proofs.Access.{task-at}
 use Rattle.specification.specs.Lookup.{leave}
 use Rattle.specification.specs.Tick.{is_last_tick, is_ticking, tick_task}
-use Rattle.coremsg.specs.Ticks.{NamesSlot, counted_down}
 
 -- one task's tick by the head of its record
 abbrev by_head : State → ℕ → TaskHead → State
@@ -38,22 +36,13 @@ module _ (q p w : List ℕ) (t : ℕ) (h : t < task_count) (x : TaskHead) (read 
   timed-out s slot e at left =
       left ∙ ap (λ (k : ℕ). leave (decode (tables q p w)) t k x.rank (ready_with TIMEOUT)) at ∙ rw e refl ∙ by-head
 
-  module _ (stays : (is_last_tick x.state x.ticks_left) ≡ false) where
-    abbrev with-tasks : List Task → State
-    with-tasks tasks = record { queues = decode_queues q; pool = decode_pool p; tasks = tasks }
+  pub counted-down : is_last_tick x.state x.ticks_left ≡ false → is_ticking x.state x.ticks_left ≡ true → (w' : List ℕ) (made : TaskHead) → made ≡ ticked_head (x.ticks_left - 1) x
+      → decode_tasks w' ≡ map_with_index (at_index t (with_head made)) (decode_tasks w) → decode (tables q p w') ≡ tick_task (decode (tables q p w)) t
+  unfolding decode
+  counted-down last ticks w' made makes written =
+      let one = head-written w w' t h x made (ticked_head (x.ticks_left - 1)) (with_ticks (x.ticks_left - 1)) (λ w. refl) read makes written in
+      ap (λ (tasks : List Task). record { queues = decode_queues q; pool = decode_pool p; tasks = tasks }) one ∙ rw (last, ticks) refl ∙ by-head
 
-    counted : (b : Bool) → is_ticking x.state x.ticks_left ≡ b → with-tasks (counted_down t x.state x.ticks_left (decode_tasks w)) ≡ by_head (decode (tables q p w)) t x
-    unfolding decode
-    counted true e = rw (stays, e) refl
-    counted false e = rw (stays, e) refl
-
-    pub counted-down : (w' : List ℕ) → decode_tasks w' ≡ counted_down t x.state x.ticks_left (decode_tasks w)
-        → decode (tables q p w') ≡ tick_task (decode (tables q p w)) t
-    unfolding decode
-    counted-down w' ew = ap with-tasks ew ∙ counted (is_ticking x.state x.ticks_left) refl ∙ by-head
-
--- a task that times out names a slot
-pub slot-named : (x : TaskHead) (w : Task) → x ≡ head_of w → NamesSlot w → (is_last_tick x.state x.ticks_left) ≡ true → (1 ≤ x.queue) × (x.queue ≤ slot_count)
-slot-named x w read names e =
-    subst (λ (y : TaskHead). (eqb y.state waiting_state && eqb y.ticks_left 1) ≡ true → (1 ≤ y.queue) × (y.queue ≤ slot_count)) (sym read)
-    (λ f. names (both (eqb w.state waiting_state) (eqb w.ticks_left 1) f).0) e
+  pub still : is_last_tick x.state x.ticks_left ≡ false → is_ticking x.state x.ticks_left ≡ false → decode (tables q p w) ≡ tick_task (decode (tables q p w)) t
+  unfolding decode
+  still last ticks = rw (last, ticks) refl ∙ by-head

@@ -9,8 +9,7 @@ ghost use Rattle.specification.specs.Flush;
 ghost use Rattle.specification.specs.Lookup.{waiters_of};
 
 use crate::messages::clear_messages;
-use objects::counts::{no_message, no_waiter};
-use objects::slots::free_record;
+use objects::slots::{change_queue, free_record};
 use records::queue::read_queue;
 use records::status::OBJECT_WAS_DELETED;
 use threadq::waiters::{deliver_to_all, ready_all, waiters_mask};
@@ -23,7 +22,7 @@ pub fn remove_messages(queues: &mut [u8], pool: &mut [u8], slot: usize) -> u8
 {
     let q = read_queue(queues, slot);
     clear_messages(pool, slot);
-    no_message(queues, slot);
+    change_queue(queues, slot, |q| q.with_pending(0));
     q.pending
 }
 
@@ -35,7 +34,7 @@ pub fn hand_to_all(queues: &mut [u8], tasks: &mut [u8], slot: usize, message: &[
 {
     let woken = waiters_mask(tasks, slot);
     deliver_to_all(tasks, slot, message);
-    no_waiter(queues, slot);
+    change_queue(queues, slot, |q| q.with_waiters(0));
     woken
 }
 

@@ -1,16 +1,15 @@
 // What a tick does to one task.
-ghost use Rattle.std.specs.Prelude.{◌≡◌, List, ℕ, ◌+◌, length};
+ghost use Rattle.std.specs.Prelude.{◌≡◌, List, ℕ, length};
 ghost use Rattle.ranks.specs.Lists.{mask};
 ghost use Rattle.records.specs.Layout.{tasks_size};
 ghost use Rattle.records.specs.Bytes.{tables, decode_tasks, decode};
 ghost use Rattle.specification.specs.Tick.{is_last_tick, is_ticking, expiring, tick_task};
-ghost use Rattle.coremsg.specs.Ticks.{TickedTask, HeadRead, counted_down};
+ghost use Rattle.coremsg.specs.Ticks.{TickedTask};
 
 use crate::steps::leave;
-use records::layout::TASK_COUNT;
 use records::status::TIMEOUT;
 use records::task::{TaskHead, read_head, write_head};
-use threadq::masks::with_bit;
+use threadq::masks::mask_of;
 
 // It waits, and this is its last tick.
 fn expires(h: TaskHead) -> bool
@@ -31,37 +30,19 @@ pub fn expired_mask(tasks: &[u8]) -> u32
     requires { length tasks.now ≡ tasks_size }
     ensures { result ≡ mask (expiring (decode_tasks tasks.now)) }
 {
-    let mut m = 0;
-    let mut t = TASK_COUNT;
-    while t > 0 {
-        t -= 1;
-        m = with_bit(m, expires(read_head(tasks, t)));
-    }
-    m
+    mask_of(|t| expires(read_head(tasks, t)))
 }
 
-// "every waiting task with ticks above 0 loses one": task t, whose head is given.
-fn count_down(tasks: &mut [u8], t: usize, h: TaskHead)
-    requires { HeadRead tasks.old t h }
-    ensures { decode_tasks tasks.new ≡ counted_down t h.state h.ticks_left (decode_tasks tasks.old) }
-{
-    if is_timed(h) {
-        write_head(tasks, t, h.with_ticks(h.ticks_left - 1));
-    }
-}
-
-// "every waiting task with ticks above 0 loses one; all that reach 0 become ready": task t, whatever the buffers. The task that comes next.
-pub fn tick_task(queues: &mut [u8], tasks: &mut [u8], t: usize) -> usize
+// "every waiting task with ticks above 0 loses one; all that reach 0 become ready": task t, whatever the buffers.
+pub fn tick_task(queues: &mut [u8], tasks: &mut [u8], t: usize)
     requires { TickedTask queues.old tasks.old t }
-    ensures { (result ≡ t + 1) × ((pool : List ℕ) → decode (tables queues.new pool tasks.new)
-        ≡ tick_task (decode (tables queues.old pool tasks.old)) t) }
+    ensures { (pool : List ℕ) → decode (tables queues.new pool tasks.new) ≡ tick_task (decode (tables queues.old pool tasks.old)) t }
 {
     let h = read_head(tasks, t);
     if expires(h) {
-        let slot = (h.queue - 1) as usize;
+        let slot = usize::from(h.queue - 1);
         leave(queues, tasks, t, slot, h.rank, TIMEOUT);
-        return t + 1;
+    } else if is_timed(h) {
+        write_head(tasks, t, h.with_ticks(h.ticks_left - 1));
     }
-    count_down(tasks, t, h);
-    t + 1
 }

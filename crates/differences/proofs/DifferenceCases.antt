@@ -16,6 +16,7 @@ differences-hold =
       size = refl;
       count = refl;
       count-112 = refl;
+      table-numbers = refl;
       first = refl;
       queues-then-pool = refl;
       pool-then-tasks = refl;

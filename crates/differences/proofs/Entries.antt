@@ -11,10 +11,10 @@ use borrow.Author.Tests.{lt-ltb, le-ltb, eqb-true, leb-true}
 use Rattle.ranks.specs.Lists.{keep_if, numbers_from}
 use Rattle.ranks.proofs.Tests.{both, either}
 use Rattle.records.specs.Layout.{image_size, image_record_count}
-use Rattle.records.specs.Status.{SUCCESSFUL}
-use Rattle.specification.specs.Answer.{first_status}
-use Rattle.differences.specs.Differences.{table_records, image_records, difference_in, differs, differences, comparable, refusals}
-use Rattle.differences.specs.Comparisons.{image_record_at, difference_at, differences_from, entries_for, status_for}
+use Rattle.records.specs.Status.{BAD-SHAPE}
+use Rattle.specification.specs.Answer.{outcome, refuse_if_any}
+use Rattle.differences.specs.Differences.{table_records, image_records, difference_in, differs, differences, comparable, refusals, list_filled, compared}
+use Rattle.differences.specs.Comparisons.{image_record_at, difference_at, differences_from}
 use Rattle.differences.specs.declared.difference.Difference.{Difference}
 
 -- ---- From a record on
@@ -67,32 +67,20 @@ pub few : (one two : List ℕ) → length (differences one two) ≤ image_record
 unfolding differences image_records table_records numbers_from
 few one two = kept-length differs (map (difference_in one two) image_records)
 
-module _ (one two : List ℕ) (room : ℕ) where
-  pub shapes : comparable one two room ≡ true → (length one ≡ image_size) × ((length two ≡ image_size) × (image_record_count ≤ room))
+-- ---- The answer
+
+module _ (one two : List ℕ) (list : List Difference) where
+  pub shapes : comparable one two (length list) ≡ true → (length one ≡ image_size) × ((length two ≡ image_size) × (image_record_count ≤ length list))
   unfolding comparable
   shapes e =
       let (both-sizes, room-enough) = both _ _ e in
       let (p, q) = both _ _ both-sizes in
-      (eqb-true (length one) image_size p, (eqb-true (length two) image_size q, leb-true image_record_count room room-enough))
+      (eqb-true (length one) image_size p, (eqb-true (length two) image_size q, leb-true image_record_count (length list) room-enough))
 
-  -- the comparison is refused, or there is room
-  pub fits : length (entries_for one two room) ≤ room
-  unfolding entries_for
-  fits = elim (either (comparable one two room)) [ inl g ↦ rw g (omega (arith, (shapes g).1.1, few one two)) | inr g ↦ rw g (omega arith) ]
+  pub refused : comparable one two (length list) ≡ false → outcome BAD-SHAPE 0 0 list ≡ compared one two list
+  unfolding compared refusals refuse_if_any
+  refused e = rw e
 
-  -- where there is an entry, the comparison is not refused
-  accepted : 0 < length (entries_for one two room) → comparable one two room ≡ true
-  unfolding entries_for
-  accepted h = elim (either (comparable one two room)) [ inl g ↦ g | inr g ↦ absurd (none g) ]
-    where
-      none : comparable one two room ≡ false → ⊥
-      none g = let e : length (entries_for one two room) ≡ 0 = rw g in omega (arith, e, h)
-
-  pub sizes : 0 < length (entries_for one two room)
-      → (length one ≡ image_size) × ((length two ≡ image_size) × (length (entries_for one two room) ≤ image_record_count))
-  unfolding entries_for
-  sizes h = let g = accepted h in ((shapes g).0, ((shapes g).1.0, rw g (few one two)))
-
-  pub successful : 0 < length (entries_for one two room) → status_for one two room ≡ SUCCESSFUL
-  unfolding status_for refusals first_status
-  successful h = rw (accepted h)
+  pub accepted : comparable one two (length list) ≡ true → list_filled (differences one two) list ≡ compared one two list
+  unfolding compared refusals refuse_if_any
+  accepted e = rw e

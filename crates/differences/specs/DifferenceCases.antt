@@ -1,17 +1,19 @@
 -- Document 02, [2]: differences written out, and where records of an image stand.
-use Rattle.std.specs.Prelude.{ℕ, ◌≡◌, List, [], ◌∷◌, length, take, drop, replicate, set}
+use Rattle.std.specs.Prelude.{ℕ, ◌≡◌, List, [], ◌∷◌, length, map, take, drop, replicate, set}
 use Rattle.records.specs.Layout.{image_size, image_record_count}
 use Rattle.records.specs.RecordCases.{zeros}
 use Rattle.records.specs.Status.{SUCCESSFUL}
 use Rattle.specification.specs.Answer.{outcome}
-use Rattle.differences.specs.Differences.{record_difference, image_records, list_filled}
+use Rattle.differences.specs.Differences.{table_number, record_difference, image_records, list_filled}
 use Rattle.differences.specs.declared.difference.Difference.{Difference}
 use Rattle.differences.specs.declared.image.ImageRecord.{ImageRecord}
+use Rattle.differences.specs.declared.image.Table.{Table}
+use Rattle.differences.specs.declared.image.Table.TheVariants.{Queues, Pool, Tasks}
 
 abbrev pub difference : (table number place count : ℕ) → Difference
 difference table number place count = record { table = table; number = number; place = place; count = count }
 
-abbrev standing : (table number start width : ℕ) → ImageRecord
+abbrev standing : Table → (number start width : ℕ) → ImageRecord
 standing table number start width = record { table = table; number = number; start = start; width = width }
 
 -- a record with other bytes at some places
@@ -36,11 +38,13 @@ pub record DifferencesHold : Type 0 where
   pub size : image_size ≡ 12800
   pub count : length image_records ≡ image_record_count
   pub count-112 : image_record_count ≡ 112
+  -- "table (0 queues, 1 pool, 2 tasks)"
+  pub table-numbers : map table_number (Queues ∷ Pool ∷ Tasks ∷ []) ≡ 0 ∷ 1 ∷ 2 ∷ []
   -- the first record, the last of a table and the first of the next, the last
-  pub first : take 1 image_records ≡ standing 0 0 0 16 ∷ []
-  pub queues-then-pool : take 2 (drop 15 image_records) ≡ standing 0 15 240 16 ∷ standing 1 0 256 128 ∷ []
-  pub pool-then-tasks : take 2 (drop 79 image_records) ≡ standing 1 63 8320 128 ∷ standing 2 0 8448 136 ∷ []
-  pub last : drop 111 image_records ≡ standing 2 31 12664 136 ∷ []
+  pub first : take 1 image_records ≡ standing Queues 0 0 16 ∷ []
+  pub queues-then-pool : take 2 (drop 15 image_records) ≡ standing Queues 15 240 16 ∷ standing Pool 0 256 128 ∷ []
+  pub pool-then-tasks : take 2 (drop 79 image_records) ≡ standing Pool 63 8320 128 ∷ standing Tasks 0 8448 136 ∷ []
+  pub last : drop 111 image_records ≡ standing Tasks 31 12664 136 ∷ []
   -- "the answer is status 0 with their number as value, and entries past it stay as they were"
   pub past-the-value : list_filled (difference 1 0 4 1 ∷ difference 2 31 135 1 ∷ []) (untouched 4)
       ≡ outcome SUCCESSFUL 2 0 (difference 1 0 4 1 ∷ difference 2 31 135 1 ∷ untouched 2)

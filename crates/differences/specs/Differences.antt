@@ -7,6 +7,8 @@ use Rattle.records.specs.Status.{SUCCESSFUL, BAD-SHAPE}
 use Rattle.specification.specs.Answer.{Outcome, outcome, Refusal, ◌⇒◌, refuse_if_any}
 use Rattle.differences.specs.declared.difference.Difference.{Difference}
 use Rattle.differences.specs.declared.image.ImageRecord.{ImageRecord}
+use Rattle.differences.specs.declared.image.Table.{Table}
+use Rattle.differences.specs.declared.image.Table.TheVariants.{Queues, Pool, Tasks}
 
 -- ---- One record
 
@@ -24,34 +26,30 @@ record_difference table number one two =
 -- ---- An image
 
 -- "0 queues, 1 pool, 2 tasks"
-abbrev pub queues_table_number : ℕ
-queues_table_number = 0
-
-abbrev pub pool_table_number : ℕ
-pool_table_number = 1
-
-abbrev pub tasks_table_number : ℕ
-tasks_table_number = 2
+abbrev pub table_number : Table → ℕ
+table_number Queues = 0
+table_number Pool = 1
+table_number Tasks = 2
 
 -- record `n` of a table that starts at a place of the image
-abbrev pub table_record : (table place width n : ℕ) → ImageRecord
+abbrev pub table_record : Table → (place width n : ℕ) → ImageRecord
 table_record table place width n = record { table = table; number = n; start = place + n * width; width = width }
 
 -- the records of such a table, in order
-unfoldable pub table_records : (table place width count : ℕ) → List ImageRecord
+unfoldable pub table_records : Table → (place width count : ℕ) → List ImageRecord
 table_records table place width count = map (table_record table place width) (numbers_from 0 count)
 
 -- "in image order"
 unfoldable pub image_records : List ImageRecord
 image_records =
-    table_records queues_table_number queues_place queue_width slot_count
-    ++ table_records pool_table_number pool_place buffer_width buffer_count
-    ++ table_records tasks_table_number tasks_place task_width task_count
+    table_records Queues queues_place queue_width slot_count
+    ++ table_records Pool pool_place buffer_width buffer_count
+    ++ table_records Tasks tasks_place task_width task_count
 
 -- the difference of two images in one record
 unfoldable pub difference_in : (one two : List ℕ) → ImageRecord → Difference
 difference_in one two r =
-    record_difference r.table r.number (slice r.start r.width one) (slice r.start r.width two)
+    record_difference (table_number r.table) r.number (slice r.start r.width one) (slice r.start r.width two)
 
 unfoldable pub differs : Difference → Bool
 differs d = ltb 0 d.count

@@ -2,18 +2,10 @@
 
 // The record's table (0 queues, 1 pool, 2 tasks) and its number there, the first place in it that differs, and how many do.
 #[repr(C)]
-#[derive(Clone, Copy)]
+#[derive(Clone, Copy, Debug, Default, PartialEq, Eq)]
 pub struct Difference {
     pub table: u8,
     pub number: u8,
     pub place: u8,
     pub count: u8,
 }
-
-// An entry that says nothing.
-pub const BLANK: Difference = Difference {
-    table: 0,
-    number: 0,
-    place: 0,
-    count: 0,
-};

@@ -1,8 +1,9 @@
 // The records of an image.
-ghost use Rattle.std.specs.Prelude.{◌≡◌, ◌+◌, ◌<◌, ◌≤◌};
+ghost use Rattle.std.specs.Prelude.{◌≡◌, ◌+◌, ◌*◌, ◌<◌, ◌≤◌};
 ghost use Rattle.octets.specs.LittleEndian.{byte_values};
 ghost use Rattle.records.specs.Layout.{image_size, image_record_count};
 ghost use Rattle.differences.specs.Comparisons.{image_record_at};
+ghost use Rattle.differences.specs.Differences.{table_record};
 
 use records::layout::{
     BUFFER_COUNT, BUFFER_WIDTH, POOL_PLACE, QUEUE_WIDTH, QUEUES_PLACE, SLOT_COUNT, TASK_WIDTH,
@@ -10,48 +11,47 @@ use records::layout::{
 };
 
 // "0 queues, 1 pool, 2 tasks"
-const QUEUES_TABLE_NUMBER: u8 = 0;
-
-const POOL_TABLE_NUMBER: u8 = 1;
-
-const TASKS_TABLE_NUMBER: u8 = 2;
+#[derive(Clone, Copy, Debug, PartialEq, Eq)]
+pub enum Table {
+    Queues = 0,
+    Pool = 1,
+    Tasks = 2,
+}
 
 // A record of an image: its table, its number there, where it starts, and how many bytes it has.
-#[derive(Clone, Copy)]
+#[derive(Clone, Copy, Debug, PartialEq, Eq)]
 pub struct ImageRecord {
-    pub table: u8,
+    pub table: Table,
     pub number: u8,
     pub start: usize,
     pub width: usize,
 }
 
+// Record n of a table that starts at a place of the image.
+fn table_record(table: Table, place: usize, width: usize, n: usize) -> ImageRecord
+    requires { (n < byte_values) × (place + n * width ≤ image_size) }
+    ensures { result ≡ table_record table place width n }
+{
+    ImageRecord {
+        table,
+        number: n as u8,
+        start: place + n * width,
+        width,
+    }
+}
+
 // Record k of an image.
+#[tactic(auto, unfolding(crate::specs::Comparisons::image_record_at))]
 pub fn image_record(k: usize) -> ImageRecord
     requires { k < image_record_count }
     ensures { (result ≡ image_record_at k) × ((result.start + result.width ≤ image_size) × (result.width < byte_values)) }
 {
     if k < SLOT_COUNT {
-        return ImageRecord {
-            table: QUEUES_TABLE_NUMBER,
-            number: k as u8,
-            start: QUEUES_PLACE + k * QUEUE_WIDTH,
-            width: QUEUE_WIDTH,
-        };
+        return table_record(Table::Queues, QUEUES_PLACE, QUEUE_WIDTH, k);
     }
-    if k < SLOT_COUNT + BUFFER_COUNT {
-        let n = k - SLOT_COUNT;
-        return ImageRecord {
-            table: POOL_TABLE_NUMBER,
-            number: n as u8,
-            start: POOL_PLACE + n * BUFFER_WIDTH,
-            width: BUFFER_WIDTH,
-        };
+    let k = k - SLOT_COUNT;
+    if k < BUFFER_COUNT {
+        return table_record(Table::Pool, POOL_PLACE, BUFFER_WIDTH, k);
     }
-    let n = k - (SLOT_COUNT + BUFFER_COUNT);
-    ImageRecord {
-        table: TASKS_TABLE_NUMBER,
-        number: n as u8,
-        start: TASKS_PLACE + n * TASK_WIDTH,
-        width: TASK_WIDTH,
-    }
+    table_record(Table::Tasks, TASKS_PLACE, TASK_WIDTH, k - BUFFER_COUNT)
 }

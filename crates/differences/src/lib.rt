@@ -2,7 +2,6 @@
 #![tactic(auto)]
 
 pub mod answer; // answer.rt: an answer as numbers
-mod comparison; // comparison.rt: how far a comparison has come
 pub mod compare; // compare.rt: the lent list filled
 pub mod difference; // difference.rt: what a record differs in
 mod image; // image.rt: the records of an image

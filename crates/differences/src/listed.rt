@@ -5,7 +5,7 @@ ghost use Rattle.differences.specs.Comparisons.{list_outcome};
 
 use crate::answer::Answer;
 use crate::compare::compare;
-use crate::difference::{BLANK, Difference};
+use crate::difference::Difference;
 use records::layout::IMAGE_RECORD_COUNT;
 
 // What a comparison answers, and the list that it leaves.
@@ -19,7 +19,7 @@ pub struct Listed {
 pub fn list_differences(one: &[u8], two: &[u8]) -> Listed
     ensures { list_outcome result.answer result.list ≡ compared one.now two.now blanks }
 {
-    let mut list = [BLANK; IMAGE_RECORD_COUNT];
+    let mut list = [Difference::default(); IMAGE_RECORD_COUNT];
     let answer = compare(one, two, &mut list);
     Listed { answer, list }
 }

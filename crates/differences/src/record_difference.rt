@@ -1,5 +1,6 @@
 // The difference of one record, by value.
-ghost use Rattle.std.specs.Prelude.{◌≡◌, ◌<◌, length};
+ghost use Rattle.std.specs.Prelude.{◌≡◌, ◌<◌, ◌≤◌, ◌==◌, not, length, count_by, zip};
+ghost use Rattle.std.specs.List.{prefix_len};
 ghost use Rattle.octets.specs.LittleEndian.{byte_values};
 ghost use Rattle.records.specs.Layout.{image_size, image_record_count};
 ghost use Rattle.differences.specs.Differences.{record_difference};
@@ -8,36 +9,48 @@ ghost use Rattle.differences.specs.Comparisons.{difference_at};
 use crate::difference::Difference;
 use crate::image::image_record;
 
+// The first place at which two records differ: how many equal bytes they begin with.
+fn first_differing(one: &[u8], two: &[u8]) -> usize
+    ensures place { result ≡ prefix_len (λ p. p.0 == p.1) (zip one.now two.now) }
+    ensures bound { result ≤ length one.now }
+{
+    one.iter().zip(two).take_while(|(x, y)| x == y).count()
+}
+
+// How many bytes differ.
+fn differing_count(one: &[u8], two: &[u8]) -> usize
+    ensures count { result ≡ count_by (λ p. not (p.0 == p.1)) (zip one.now two.now) }
+    ensures bound { result ≤ length one.now }
+{
+    one.iter().zip(two).filter(|(x, y)| x != y).count()
+}
+
 // Of two records: count 0 if they are equal.
+#[tactic(auto, using(crate::proofs::DifferingPlaces::placed, crate::proofs::DifferingPlaces::counted), unfolding(crate::specs::Differences::record_difference))]
 fn record_difference(table: u8, number: u8, one: &[u8], two: &[u8]) -> Difference
     requires { (length one.now ≡ length two.now) × (length one.now < byte_values) }
     ensures { result ≡ record_difference table number one.now two.now }
 {
-    let mut place = one.len();
-    let mut count = 0usize;
-    let mut i = one.len();
-    while 0 < i {
-        i -= 1;
-        if one[i] != two[i] {
-            place = i;
-            count += 1;
-        }
-    }
     Difference {
         table,
         number,
-        place: place as u8,
-        count: count as u8,
+        place: first_differing(one, two) as u8,
+        count: differing_count(one, two) as u8,
     }
 }
 
 // Of two images, in record k.
+#[tactic(auto, unfolding(crate::specs::Differences::difference_in, ranks::specs::Table::slice))]
 pub fn difference_at(one: &[u8], two: &[u8], k: usize) -> Difference
     requires { (length one.now ≡ image_size) × ((length two.now ≡ image_size) × (k < image_record_count)) }
     ensures { result ≡ difference_at one.now two.now k }
 {
     let r = image_record(k);
-    let from = r.start;
-    let to = from + r.width;
-    record_difference(r.table, r.number, &one[from..to], &two[from..to])
+    let end = r.start + r.width;
+    record_difference(
+        r.table as u8,
+        r.number,
+        &one[r.start..end],
+        &two[r.start..end],
+    )
 }

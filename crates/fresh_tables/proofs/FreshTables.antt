@@ -1,16 +1,14 @@
 -- Fresh tables, as the code makes them. Assumes nothing.
 use Prim.Native.Nat.{ℕ}
-use native.Mathlib.Nat.{zero-add}
 use mathlib.Core.Path.{◌≡◌, refl, sym, ap, ◌∙◌}
 use mathlib.Core.Bool.{true}
-use mathlib.Core.List.{List, ◌++◌, append-nil}
-use lib.ListN.{length, drop, replicate}
-use lib.Seq.{drop-length}
+use mathlib.Core.List.{List}
+use lib.ListN.{length, replicate}
 use lib.Dec.{eqb}
 use borrow.Author.Tests.{eqb-true}
 use Rattle.ranks.specs.Lists.{within, every}
 use Rattle.ranks.proofs.Tests.{both}
-use Rattle.ranks.specs.Table.{slice, records, spliced}
+use Rattle.ranks.specs.Table.{slice, records}
 use Rattle.records.specs.Records.{free_queue, free_buffer, fresh_tasks, fresh}
 use Rattle.octets.specs.LittleEndian.{from_little_endian}
 use Rattle.records.specs.Bytes.{tables, decode_queue, decode_buffer, decode_queues, decode_pool, decode_tasks, decode, encode, right_lengths}
@@ -24,11 +22,6 @@ pub right-count : (ps : List ℕ) → good_priorities ps ≡ true → length ps 
 unfolding good_priorities
 right-count ps good = eqb-true (length ps) task_count (both (eqb (length ps) task_count) (every (λ t p. within 1 255 p) ps) good).0
 
--- bytes written over all of a table
-overwritten : (t new : List ℕ) → length t ≡ length new → spliced t 0 new ≡ new
-unfolding spliced
-overwritten t new e = ap (λ (l : List ℕ). new ++ l) (ap (λ (n : ℕ). drop n t) (zero-add (length new) ∙ sym e) ∙ drop-length t) ∙ append-nil new
-
 free-queues : decode_queues (replicate queues_size 0) ≡ replicate slot_count (free_queue 0)
 unfolding decode_queue records slice from_little_endian
 free-queues = refl
@@ -38,13 +31,13 @@ unfolding decode_buffer records slice
 free-buffers = refl
 
 module _ (q p w ps q' p' w' : List ℕ) (right : right_lengths (tables q p w) ≡ true)
-    (queues : q' ≡ spliced q 0 (replicate queues_size 0)) (pool : p' ≡ spliced p 0 (replicate pool_size 0)) (tasks : decode_tasks w' ≡ fresh_tasks ps)
+    (queues : q' ≡ replicate (length q) 0) (pool : p' ≡ replicate (length p) 0) (tasks : decode_tasks w' ≡ fresh_tasks ps)
     (size : length w' ≡ length w) (bytes : Slice w') where
   zero-queues : q' ≡ replicate queues_size 0
-  zero-queues = queues ∙ overwritten q (replicate queues_size 0) (lengths (tables q p w) right).0
+  zero-queues = queues ∙ ap (λ (n : ℕ). replicate n 0) (lengths (tables q p w) right).0
 
   zero-pool : p' ≡ replicate pool_size 0
-  zero-pool = pool ∙ overwritten p (replicate pool_size 0) (lengths (tables q p w) right).1
+  zero-pool = pool ∙ ap (λ (n : ℕ). replicate n 0) (lengths (tables q p w) right).1
 
   as_bytes : encode (decode (tables (replicate queues_size 0) (replicate pool_size 0) w')) ≡ tables (replicate queues_size 0) (replicate pool_size 0) w'
   unfolding right_lengths

@@ -7,25 +7,14 @@ ghost use Rattle.specification.specs.Run.{good_priorities, fresh_tables};
 ghost use Rattle.fresh_tables.specs.Fresh.{made_fresh};
 
 use common_refusals::right_lengths;
-use octets::copy::copy_into;
-use records::layout::{POOL_SIZE, QUEUES_SIZE, TASK_COUNT};
+use records::layout::TASK_COUNT;
 use records::task::write_fresh_task;
 
 // "priorities of 1 to 255", of 32 tasks
 pub fn good_priorities(priorities: &[u8]) -> bool
     ensures { result ≡ good_priorities priorities.now }
 {
-    if priorities.len() != TASK_COUNT {
-        return false;
-    }
-    let mut good = true;
-    'search: for t in 0..TASK_COUNT {
-        if priorities[t] == 0 {
-            good = false;
-            break 'search;
-        }
-    }
-    good
+    priorities.len() == TASK_COUNT && priorities.iter().all(|priority| *priority != 0)
 }
 
 // Each task is ready with its priority, and the rest of its record is zero.
@@ -33,10 +22,8 @@ fn make_tasks(tasks: &mut [u8], priorities: &[u8])
     requires { (length tasks.old ≡ tasks_size) × (length priorities.now ≡ task_count) }
     ensures { decode_tasks tasks.new ≡ fresh_tasks priorities.now }
 {
-    let mut t = 0;
-    while t < TASK_COUNT {
+    for t in 0..TASK_COUNT {
         write_fresh_task(tasks, t, priorities[t]);
-        t += 1;
     }
 }
 
@@ -45,10 +32,8 @@ fn write_fresh(queues: &mut [u8], pool: &mut [u8], tasks: &mut [u8], priorities:
     requires { (right_lengths (tables queues.old pool.old tasks.old) ≡ true) × (length priorities.now ≡ task_count) }
     ensures { tables queues.new pool.new tasks.new ≡ fresh_tables priorities.now }
 {
-    let free_queues = [0u8; QUEUES_SIZE];
-    let free_buffers = [0u8; POOL_SIZE];
-    copy_into(queues, 0, &free_queues);
-    copy_into(pool, 0, &free_buffers);
+    queues.fill(0);
+    pool.fill(0);
     make_tasks(tasks, priorities);
 }
 

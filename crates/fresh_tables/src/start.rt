@@ -20,13 +20,7 @@ pub struct TableBytes {
 fn priorities() -> [u8; TASK_COUNT]
     ensures { result ≡ numbers_from 1 task_count }
 {
-    let mut p = [0u8; TASK_COUNT];
-    let mut t = 0;
-    while t < TASK_COUNT {
-        p[t] = t as u8 + 1;
-        t += 1;
-    }
-    p
+    std::array::from_fn(|t| t as u8 + 1)
 }
 
 // "The program starts fresh". The tables have their lengths and the priorities are 1 to 32, so that nothing is refused.

@@ -2,7 +2,8 @@
 -- What an argument is no contract can say, or that the system was asked for it: `Argument` holds of any path. It names the number of the
 -- argument, so that the definition below says which belongs to which file. That `argument` asks for it is read in its body, a line, and
 -- shown by runs.
-use Rattle.std.specs.Prelude.{ℕ, ◌≡◌, Bool, List, []}
+use Rattle.std.specs.Prelude.{ℕ, ◌≡◌, List, [], Result}
+use Rattle.std.specs.declared.io.Error.{Error}
 use Rattle.streams.specs.Writing.{standard_output, Writes}
 use Rattle.imageio.specs.Printed.{printed_of}
 use Rattle.imageio.specs.Files.{PrintsFiles}
@@ -17,6 +18,6 @@ argument_count = 3
 
 -- With two arguments what is printed is of the files that they name. Document 02 does not say what another number of them gives: what is
 -- printed is of two files with no bytes.
-pub data PrintsArguments (count : ℕ) (done : Bool) : Type 0 where
+pub data PrintsArguments (count : ℕ) (done : Result (Unit {0}) Error) : Type 0 where
   files : {one two : List ℕ} → count ≡ argument_count → Argument 1 one → Argument 2 two → PrintsFiles one two done → PrintsArguments count done
   not-two : (count ≡ argument_count → ⊥) → Writes standard_output (printed_of [] []) done → PrintsArguments count done

@@ -1,14 +1,12 @@
 // Prints what differs between the images in two files, named as its arguments.
 #![tactic(auto)]
 
-ghost use Rattle.std.specs.Prelude.{take};
-ghost use Rattle.streams.specs.Filling.{IsPrefixLen};
 ghost use Rattle.image_compare.specs.Arguments.{Argument, PrintsArguments};
 
 use imageio::printing::{print_differences, print_files};
 use std::env::FillError;
+use std::io;
 use std::rt::Env;
-use streams::system::System;
 use streams::writing::say_failed;
 
 // The program's own name and two paths.
@@ -17,41 +15,40 @@ const ARGUMENT_COUNT: usize = 3;
 // The most bytes of a path, with the 0 that ends it for the system.
 const PATH_MAX: usize = 4096;
 
-// Puts argument i at the front of the buffer. How long it is: 0 where it is longer than any path.
-fn argument(system: &System, i: usize, path: &mut [u8; PATH_MAX]) -> usize
-    ensures argument { Argument i (take result path.new) }
-    ensures prefix_len { IsPrefixLen result path.new }
+// Argument i, put into the room for it: empty where it is longer than any path.
+fn argument<'a>(rt: &HostRuntime, i: usize, room: &'a mut [u8; PATH_MAX]) -> &'a [u8]
+    ensures { Argument i result.now }
 {
-    system.runtime().arg(i, path).unwrap_or(0)
+    let n = rt.arg(i, room).unwrap_or(0);
+    &room[..n]
 }
 
-// Prints what differs between the files that the arguments name, if there are two; else as of two files with no bytes. Whether it was done.
-fn print_arguments(system: &System, count: usize) -> bool
+// Prints what differs between the files that the arguments name, if there are two; else as of two files with no bytes.
+fn print_arguments(rt: &HostRuntime, count: usize) -> io::Result<()>
     ensures { PrintsArguments count result }
 {
     if count != ARGUMENT_COUNT {
-        return print_differences(system, &[], &[]);
+        return print_differences(rt, &[], &[]);
     }
     let mut one = [0u8; PATH_MAX];
     let mut two = [0u8; PATH_MAX];
-    let n = argument(system, 1, &mut one);
-    let m = argument(system, 2, &mut two);
-    print_files(system, &one[..n], &two[..m])
+    let first = argument(rt, 1, &mut one);
+    let second = argument(rt, 2, &mut two);
+    print_files(rt, first, second)
+}
+
+fn is_present(rt: &HostRuntime, i: usize) -> bool {
+    !matches!(rt.arg(i, &mut []), Err(FillError::NotPresent))
 }
 
 // How many arguments there are: all in front of the first that the system does not have.
-fn count_arguments(system: &System) -> usize {
-    for i in 0..usize::MAX {
-        if let Err(FillError::NotPresent) = system.runtime().arg(i, &mut []) {
-            return i;
-        }
-    }
-    usize::MAX
+fn count_arguments(rt: &HostRuntime) -> usize {
+    (0..usize::MAX).take_while(|&i| is_present(rt, i)).count()
 }
 
 fn main(rt: HostRuntime) {
-    let system = System::new(rt);
-    if !print_arguments(&system, count_arguments(&system)) {
-        say_failed(&system, b"standard output");
+    let count = count_arguments(&rt);
+    if let Err(error) = print_arguments(&rt, count) {
+        say_failed(&rt, b"standard output", error);
     }
 }

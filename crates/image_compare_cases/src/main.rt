@@ -7,40 +7,36 @@
 #![tactic(auto)]
 
 use imageio::printing::print_files;
-use streams::system::System;
-use streams::writing::{standard_output, write};
 
-fn print(system: &System, text: &[u8]) {
-    let to = standard_output(system);
-    write(system, to, text);
-}
+// The pairs of files.
+const PAIRS: [(&str, &str); 18] = [
+    ("base.image", "base.image"),
+    ("base.image", "one_byte.image"),
+    ("base.image", "three_bytes.image"),
+    ("base.image", "ends.image"),
+    ("base.image", "all_records.image"),
+    ("base.image", "all_bytes.image"),
+    ("all_bytes.image", "all_bytes.image"),
+    ("base.image", "one_byte_less.image"),
+    ("one_byte_less.image", "one_byte_less.image"),
+    ("base.image", "one_byte_more.image"),
+    ("one_byte_more.image", "base.image"),
+    ("one_byte_more.image", "one_byte_more.image"),
+    ("no_bytes.image", "base.image"),
+    ("base.image", "no_bytes.image"),
+    ("base.image", "missing.image"),
+    ("missing.image", "base.image"),
+    ("missing.image", "missing.image"),
+    ("base.image", "."),
+];
 
-fn compare_files(system: &System, one: &[u8], two: &[u8]) {
-    print(system, one);
-    print(system, b" ");
-    print(system, two);
-    print(system, b"\n");
-    print_files(system, one, two);
+fn compare_files(rt: &HostRuntime, one: &str, two: &str) {
+    let _ = println!(rt; "{one} {two}");
+    let _ = print_files(rt, one.as_bytes(), two.as_bytes());
 }
 
 fn main(rt: HostRuntime) {
-    let system = System::new(rt);
-    compare_files(&system, b"base.image", b"base.image");
-    compare_files(&system, b"base.image", b"one_byte.image");
-    compare_files(&system, b"base.image", b"three_bytes.image");
-    compare_files(&system, b"base.image", b"ends.image");
-    compare_files(&system, b"base.image", b"all_records.image");
-    compare_files(&system, b"base.image", b"all_bytes.image");
-    compare_files(&system, b"all_bytes.image", b"all_bytes.image");
-    compare_files(&system, b"base.image", b"one_byte_less.image");
-    compare_files(&system, b"one_byte_less.image", b"one_byte_less.image");
-    compare_files(&system, b"base.image", b"one_byte_more.image");
-    compare_files(&system, b"one_byte_more.image", b"base.image");
-    compare_files(&system, b"one_byte_more.image", b"one_byte_more.image");
-    compare_files(&system, b"no_bytes.image", b"base.image");
-    compare_files(&system, b"base.image", b"no_bytes.image");
-    compare_files(&system, b"base.image", b"missing.image");
-    compare_files(&system, b"missing.image", b"base.image");
-    compare_files(&system, b"missing.image", b"missing.image");
-    compare_files(&system, b"base.image", b".");
+    for (one, two) in PAIRS {
+        compare_files(&rt, one, two);
+    }
 }

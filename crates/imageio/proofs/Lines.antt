@@ -1,5 +1,5 @@
 -- Laws of the lines of a list, and of what is printed of a comparison. Assumes nothing.
-use Prim.Native.Nat.{ℕ, zero, suc, ◌+◌, ◌*◌, ◌<◌, ◌≤◌}
+use Prim.Native.Nat.{ℕ, zero, suc, ◌+◌, ◌<◌, ◌≤◌}
 use native.Mathlib.Omega.{arith}
 use native.Mathlib.Numerals.{add-one}
 use mathlib.Core.Path.{◌≡◌, sym, ap, ◌∙◌}
@@ -20,7 +20,6 @@ use Rattle.differences.specs.declared.answer.Answer.{Answer}
 use Rattle.differences.specs.declared.difference.Difference.{Difference}
 use Rattle.differences.proofs.Entries.{few}
 use Rattle.imageio.specs.Printed.{newline, number_then, line, lines_of, printed, printed_of}
-use Rattle.imageio.specs.Texts.{line_room, text_room, Appends}
 
 -- the line of the next entry comes behind those of the first
 one_more : (ds : List Difference) (i : ℕ) (d : Difference) → i < length ds → lines_of (take (suc i) ds) ≡ lines_of (take i ds) ++ line (get_or ds i d)
@@ -29,18 +28,8 @@ one_more [] i d h = absurd (omega arith)
 one_more (e ∷ ds) zero d h = append-nil (line e)
 one_more (e ∷ ds) (suc i) d h = ap (λ (l : List ℕ). line e ++ l) (one_more ds i d (omega arith)) ∙ sym (append_assoc (line e) (lines_of (take i ds)) (line (get_or ds i d)))
 
-pub next-line : {out after : List ℕ} {at end : ℕ} (ds : List Difference) (i : ℕ) {x : Difference} (d : Difference) → Appends out at (line x) after end → x ≡ get_or ds i d
-    → take at out ≡ lines_of (take i ds) → i < length ds → take end after ≡ lines_of (take (i + 1) ds)
-next-line {out} {after} {at} {end} ds i {x} d p e inv h =
-    p.text ∙ ap (λ (t : List ℕ). t ++ line x) inv ∙ ap (λ (y : Difference). lines_of (take i ds) ++ line y) e
-    ∙ sym (ap (λ (k : ℕ). lines_of (take k ds)) (add-one i) ∙ one_more ds i d h)
-
--- the lines of the first `i` of `n` entries are the text, which has `at` bytes
-pub record LinesPut (entries : List Difference) (n : ℕ) (out : List ℕ) (at i : ℕ) : Type 0 where
-  pub some : i ≤ n
-  pub short : at ≤ line_room * i
-  pub size : length out ≡ text_room
-  pub text : take at out ≡ lines_of (take i entries)
+pub next-line : (ds : List Difference) (i : ℕ) (d : Difference) (text : List ℕ) → text ≡ lines_of (take i ds) → i < length ds → text ++ line (get_or ds i d) ≡ lines_of (take (i + 1) ds)
+next-line ds i d text e h = ap (λ (t : List ℕ). t ++ line (get_or ds i d)) e ∙ sym (ap (λ (k : ℕ). lines_of (take k ds)) (add-one i) ∙ one_more ds i d h)
 
 -- ---- What is printed, from what a comparison answers and the list that it leaves
 

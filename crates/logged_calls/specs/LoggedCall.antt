@@ -1,5 +1,5 @@
 -- Document 01, "The call log": what a record of a log asks of the tables, and its answer record.
-use Rattle.std.specs.Prelude.{ℕ, Bool, true, false, List, take}
+use Rattle.std.specs.Prelude.{ℕ, List, take}
 use Rattle.records.specs.Bytes.{Tables}
 use Rattle.records.specs.Status.{BAD-SHAPE}
 use Rattle.specification.specs.Answer.{Answer, Outcome, refuse}
@@ -28,12 +28,6 @@ directive_of (Flush id) field = on_queue id flush
 unfoldable pub call_of : LogCall → (field : List ℕ) → Call
 call_of (By caller directive) field = call caller (directive_of directive field)
 call_of Tick field = tick
-
--- what a reader found is a call
-unfoldable pub is_call : LogResult → Bool
-is_call (WellFormed c) = true
-is_call Malformed = false
-is_call End = false
 
 -- A well-formed call is done; anything else "is 16", and is no call.
 unfoldable pub outcome_for : Tables → LogResult → (field : List ℕ) → Outcome Tables

@@ -16,20 +16,16 @@ use manager::msgqident::ident;
 use manager::msgqreceive::receive;
 use manager::msgqsend::send;
 use manager::msgqurgent::urgent;
-use octets::numbers::wide;
 
 // The first n bytes of a message field, or all of it.
 fn front_of(field: &[u8], n: u8) -> &[u8]
     ensures { result.now ≡ take n field.now }
 {
-    let end = wide(n);
-    if field.len() < end {
-        return field;
-    }
-    &field[..end]
+    field.get(..usize::from(n)).unwrap_or(field)
 }
 
 // The directive, on sound tables and for a caller that may call.
+#[tactic(auto, unfolding(crate::specs::LoggedCall::directive_of))]
 pub fn perform(
     queues: &mut [u8],
     pool: &mut [u8],
@@ -54,9 +50,9 @@ pub fn perform(
             tasks,
             caller,
             name,
-            limit as u32,
-            max_size as u32,
-            attributes as u32,
+            u32::from(limit),
+            u32::from(max_size),
+            u32::from(attributes),
         ),
         Directive::Ident { name, share } => ident(queues, pool, tasks, caller, name, share),
         Directive::Delete { id } => delete(queues, pool, tasks, caller, id),
@@ -70,7 +66,7 @@ pub fn perform(
             broadcast(queues, pool, tasks, caller, id, front_of(field, size))
         }
         Directive::Receive { id, option, ticks } => {
-            receive(queues, pool, tasks, caller, id, option as u32, ticks)
+            receive(queues, pool, tasks, caller, id, u32::from(option), ticks)
         }
         Directive::Pending { id } => get_number_pending(queues, pool, tasks, caller, id),
         Directive::Flush { id } => flush(queues, pool, tasks, caller, id),

@@ -1,2 +1,3 @@
+pub mod Agreements
 pub mod Blocks
 pub mod Room

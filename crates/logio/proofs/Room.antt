@@ -1,14 +1,14 @@
 -- A log whose answer records have room. Assumes nothing.
 use native.Mathlib.Omega.{arith}
 use Prim.Native.Nat.{ℕ, ◌+◌, ◌*◌, ◌≤◌}
-use mathlib.Core.List.{List, ◌++◌}
-use mathlib.Core.Path.{◌≡◌, sym, ap, ◌∙◌}
+use mathlib.Core.List.{List, [], ◌++◌}
+use mathlib.Core.Path.{◌≡◌, refl, sym, ap, ◌∙◌}
 use lib.ListN.{length, take, drop, length-append}
 use lib.Seq.{take_at}
-use Rattle.ranks.specs.Table.{spliced}
+use Rattle.ranks.specs.Table.{spliced, records}
 use Rattle.records.specs.Bytes.{Tables}
 use Rattle.calllog.specs.CallLog.{record_width, answer_width, record_count}
-use Rattle.runs.specs.Replay.{Replayed, replayed, replayed_front}
+use Rattle.runs.specs.Replay.{Replayed, replay_records, records_of, replayed, replayed_front}
 
 -- a part of a log has no more records
 pub no_more : {n m : ℕ} → n ≤ m → record_count n ≤ record_count m
@@ -31,3 +31,8 @@ front-answers t log lent end {answers} {after} is e =
 pub records-room : {n m : ℕ} (k : ℕ) → n ≤ k * record_width → k * answer_width ≤ m → record_count n * answer_width ≤ m
 unfolding record_count
 records-room k h room = omega arith
+
+-- no bytes of a log are no records
+pub none-replayed : (t : Tables) (room : List ℕ) → (record { answers = room; after = t }) ≡ replayed_front t [] room
+unfolding replayed_front replayed records_of record_count records replay_records spliced
+none-replayed t room = refl

@@ -7,8 +7,10 @@ ghost use Rattle.logio.specs.Turns.{ReplaysBlock};
 
 use calllog::layout::{ANSWER_WIDTH, RECORD_WIDTH};
 use runs::replay::replay_all;
-use streams::reading::{Source, fill};
-use streams::system::System;
+use std::io;
+use std::io::Read;
+use std::os::fd::AsRawFd;
+use streams::reading::fill;
 
 // How many records a block has.
 const BLOCK_RECORDS: usize = 481;
@@ -19,34 +21,29 @@ pub const BLOCK: usize = BLOCK_RECORDS * RECORD_WIDTH;
 // The bytes of their answers.
 pub const ANSWERS: usize = BLOCK_RECORDS * ANSWER_WIDTH;
 
-// What became of a block of a log.
-#[derive(Clone, Copy)]
+// A block of a log that was read and replayed.
+#[derive(Clone, Copy, Debug, Default, PartialEq, Eq)]
 pub struct BlockReplayed {
-    pub n: usize, // bytes that were read and replayed
+    pub n: usize, // bytes that were read
     pub end: usize, // bytes of their answer records, at the front of the lent ones
-    pub failed: bool, // a read failed, and nothing was replayed
 }
 
-// Reads a block of a log and replays it.
-pub fn replay_block(
-    system: &System,
-    from: &Source,
+// Reads a block of a log and replays it. Where a read failed nothing is replayed.
+pub fn replay_block<'a, R: AsRawFd>(
+    from: &'a R,
     queues: &mut [u8],
     pool: &mut [u8],
     tasks: &mut [u8],
     log: &mut [u8],
     answers: &mut [u8],
-) -> BlockReplayed
+) -> io::Result<BlockReplayed>
+where
+    &'a R: Read,
     requires { record_count (length log.old) * answer_width ≤ length answers.old }
-    ensures { ReplaysBlock (input_of from.now) (tables queues.old pool.old tasks.old) log.old answers.old
+    ensures { ReplaysBlock (input_of (R.raw_fd from.now)) (tables queues.old pool.old tasks.old) log.old answers.old
         result log.new answers.new (tables queues.new pool.new tasks.new) }
 {
-    let f = fill(system, from, log);
-    let n = f.n;
+    let n = fill(from, log)?;
     let end = replay_all(queues, pool, tasks, &log[..n], answers);
-    BlockReplayed {
-        n,
-        end,
-        failed: f.failed,
-    }
+    Ok(BlockReplayed { n, end })
 }

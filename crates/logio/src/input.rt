@@ -1,110 +1,81 @@
 // A log of any length on standard input, replayed in constant memory.
-ghost use Rattle.std.specs.Prelude.{◌≡◌, ◌≤◌, length, take};
+ghost use Rattle.std.specs.Prelude.{◌≡◌, is_some, nat_lt};
 ghost use Rattle.records.specs.Bytes.{tables};
-ghost use Rattle.logio.specs.Turns.{after_block, Finished, Turn, ReplayedInTurns, Tells};
-ghost use Rattle.logio.specs.Turns.{goes_on as Turns·goes_on};
+ghost use Rattle.logio.specs.Turns.{block_bytes, Turn, ReplayedInTurns, Tells};
 
-use crate::block::{ANSWERS, BLOCK, BlockReplayed, replay_block};
+use crate::block::{ANSWERS, BLOCK, replay_block};
+use std::io;
+use std::io::Stdout;
 use streams::reading::standard_input;
-use streams::system::System;
-use streams::writing::{say_failed, standard_output, write_answers};
+use streams::writing::{say_failed, write_answers};
 
-// What became of a log.
-#[derive(Clone, Copy)]
-pub enum Ending {
-    GoesOn, // it may have more blocks; so ends only a run of 2^64 - 1 of them, which no input has
-    Complete, // it was replayed to its end
-    NotRead, // a read failed
-    NotWritten, // answers could not be written
+// Why a log was not replayed to its end.
+#[derive(Clone, Copy, Debug)]
+pub enum ReplayError {
+    NotRead(io::Error), // a read failed
+    NotWritten(io::Error), // answers could not be written
+    TooLong, // it may have more than 2^64 - 1 blocks, which no input has
 }
 
-// What became of a log after n bytes of a block. `failed`: a read failed. `done`: their answers were written, or nobody asked for them.
-fn after_block(n: usize, failed: bool, done: bool) -> Ending
-    ensures { result ≡ after_block n failed done }
-{
-    if failed {
-        return Ending::NotRead;
-    }
-    if !done {
-        return Ending::NotWritten;
-    }
-    if n < BLOCK {
-        return Ending::Complete;
-    }
-    Ending::GoesOn
-}
-
-fn goes_on(e: Ending) -> bool
-    ensures { result ≡ Turns·goes_on e }
-{
-    match e {
-        Ending::GoesOn => true,
-        Ending::Complete => false,
-        Ending::NotRead => false,
-        Ending::NotWritten => false,
-    }
-}
-
-// What follows a block: its answers are written, where they are asked for. After a failed read there are none.
-fn finish(system: &System, b: BlockReplayed, answering: bool, answers: &[u8]) -> Ending
-    requires { b.end ≤ length answers.now }
-    ensures { Finished answering b.n b.failed (take b.end answers.now) result }
-{
-    let end = b.end;
-    let to = standard_output(system);
-    let done = write_answers(system, to, answering, &answers[..end]);
-    after_block(b.n, b.failed, done)
-}
-
-// Reads a block, replays it and writes its answers.
+// Reads a block, replays it and writes its answers, where they are asked for. How many bytes of the log were read.
 fn turn(
-    system: &System,
+    rt: &HostRuntime,
     queues: &mut [u8],
     pool: &mut [u8],
     tasks: &mut [u8],
-    answering: bool,
-) -> Ending
-    ensures { Turn answering (tables queues.old pool.old tasks.old) result
+    to: Option<Stdout>,
+) -> Result<usize, ReplayError>
+    ensures { Turn (is_some to) (tables queues.old pool.old tasks.old) result
         (tables queues.new pool.new tasks.new) }
 {
     let mut log = [0u8; BLOCK];
     let mut answers = [0u8; ANSWERS];
-    let from = standard_input(system);
-    let b = replay_block(system, &from, queues, pool, tasks, &mut log, &mut answers);
-    finish(system, b, answering, &answers)
+    let from = standard_input(rt);
+    let block = replay_block(&from, queues, pool, tasks, &mut log, &mut answers).map_err(
+        ReplayError::NotRead,
+    )?;
+    write_answers(to, &answers[..block.end]).map_err(ReplayError::NotWritten)?;
+    Ok(block.n)
+}
+
+// A block of which n bytes were read is the last, where it is shorter than the others.
+fn is_last(n: usize) -> bool
+    ensures { result ≡ nat_lt n block_bytes }
+{
+    n < BLOCK
 }
 
 // Replays the log, and writes its answers where they are asked for.
-// A proved loop has to end, and nothing says that a log does. So the loop counts its turns down, from a number that no run uses up.
+// A proved loop has to end, and nothing says that a log does. So the turns have a number, which no run uses up.
 pub fn replay_input(
-    system: &System,
+    rt: &HostRuntime,
     queues: &mut [u8],
     pool: &mut [u8],
     tasks: &mut [u8],
-    answering: bool,
-) -> Ending
-    ensures { ReplayedInTurns answering (tables queues.old pool.old tasks.old) result
+    to: Option<Stdout>,
+) -> Result<(), ReplayError>
+    ensures { ReplayedInTurns (is_some to) (tables queues.old pool.old tasks.old) result
         (tables queues.new pool.new tasks.new) }
 {
-    let mut turns = u64::MAX;
-    while turns > 0 {
-        let e = turn(system, queues, pool, tasks, answering);
-        if !goes_on(e) {
-            return e;
+    for _ in 0..u64::MAX {
+        let n = turn(rt, queues, pool, tasks, to)?;
+        if is_last(n) {
+            return Ok(());
         }
-        turns -= 1;
     }
-    Ending::GoesOn
+    Err(ReplayError::TooLong)
 }
 
 // Says on standard error why a log was not replayed to its end.
-pub fn tell(system: &System, e: Ending)
-    ensures { Tells e }
+pub fn tell(rt: &HostRuntime, ending: Result<(), ReplayError>)
+    ensures { Tells ending }
 {
-    match e {
-        Ending::Complete => {}
-        Ending::NotWritten => say_failed(system, b"standard output"),
-        Ending::NotRead => say_failed(system, b"standard input"),
-        Ending::GoesOn => say_failed(system, b"length of the log"),
+    match ending {
+        Ok(()) => {}
+        Err(ReplayError::NotRead(error)) => say_failed(rt, b"standard input", error),
+        Err(ReplayError::NotWritten(error)) => say_failed(rt, b"standard output", error),
+        Err(ReplayError::TooLong) => {
+            say_failed(rt, b"length of the log", io::Error::from_raw_os_error(0))
+        }
     }
 }

@@ -1,9 +1,4 @@
+pub mod Called
 pub mod Calls
-pub mod Creates
-pub mod Idents
-pub mod OnQueue
-pub mod Operations
-pub mod Outcomes
-pub mod Receives
-pub mod Submits
+pub mod Directives
 pub mod Ticks

@@ -14,7 +14,7 @@ use Rattle.records.specs.Records.{State, task_at}
 use Rattle.records.specs.Bytes.{Tables, tables, decode_tasks, decode, encode, right_lengths, decode_task_at}
 use Rattle.records.proofs.Access.{task-at, ones-mask}
 use Rattle.records.specs.Status.{SUCCESSFUL}
-use Rattle.records.proofs.EncodeDecode.{encode-decode}
+use Rattle.records.proofs.EncodeDecode.{lengths, encode-decode}
 use Rattle.specification.specs.Call.{tick}
 use Rattle.specification.specs.Sound.{sound}
 use Rattle.specification.specs.Tick.{expiring, tick_task, tick_tasks}
@@ -24,12 +24,15 @@ use Rattle.specification.proofs.Rules.{task-rules}
 use Rattle.specification.proofs.SoundFacts.{SoundFacts, sound-facts}
 use Rattle.theorems.proofs.FieldsInRange.{decoded-sized}
 use Rattle.theorems.proofs.SoundTick.{tick_task-sound}
+use Rattle.common_refusals.proofs.FirstTests.{tasks_length}
 use Rattle.manager.specs.Outcomes.{answer_of, outcome_of}
-use Rattle.coremsg.specs.Ticks.{NamesSlot}
-use Rattle.manager.specs.declared.answer.Answer.TheVariants.{Successful}
+use Rattle.coremsg.specs.Ticks.{NamesSlot, TickedTask}
+use Rattle.std.specs.Prelude.{Ok}
+use Rattle.manager.specs.declared.answer.Completion.TheVariants.{Successful}
 use Rattle.records.proofs.ByteLists.{Slice, bytes-lent}
 
-pub names-slot : (t : Tables) → SoundFacts (decode t) → (k : ℕ) → k < task_count → NamesSlot (decode_task_at k t.tasks)
+-- a task of sound tables names a slot
+names-slot : (t : Tables) → SoundFacts (decode t) → (k : ℕ) → k < task_count → NamesSlot (decode_task_at k t.tasks)
 names-slot t g k h =
     subst NamesSlot (task-at t k h)
     (λ e. ⊎_elim
@@ -46,8 +49,8 @@ pub record TickedBelow (q₀ p w₀ q w : List ℕ) (t : ℕ) : Type 0 where
   pub rest : tick_tasks (decode (tables q p w)) (numbers_from t (task_count - t)) ≡ tick_tasks (decode (tables q₀ p w₀)) (numbers_from 0 task_count)
 
 module _ (q₀ p w₀ : List ℕ) where
-  pub none-ticked : sound (decode (tables q₀ p w₀)) ≡ true → Slice q₀ → Slice w₀ → TickedBelow q₀ p w₀ q₀ w₀ 0
-  none-ticked ok bq bw =
+  pub none_ticked : sound (decode (tables q₀ p w₀)) ≡ true → Slice q₀ → Slice w₀ → TickedBelow q₀ p w₀ q₀ w₀ 0
+  none_ticked ok bq bw =
       record {
         queues_size = refl;
         tasks_size = refl;
@@ -58,10 +61,20 @@ module _ (q₀ p w₀ : List ℕ) where
       }
 
   module _ (q w : List ℕ) (t : ℕ) (before : TickedBelow q₀ p w₀ q w t) where
-    pub one-more-ticked : (q' w' : List ℕ) → t < task_count → length q' ≡ length q → length w' ≡ length w → Slice q' → Slice w'
+    pub each_task : right_lengths (tables q₀ p w₀) ≡ true → (k : ℕ) → k < task_count → TickedTask q w k
+    each_task shaped k h =
+        let sizes = lengths (tables q₀ p w₀) shaped in
+        record {
+          task_below = h;
+          queues_length = before.queues_size ∙ sizes.0;
+          tasks_length = before.tasks_size ∙ sizes.2;
+          names_slot = names-slot (tables q p w) before.facts k h;
+        }
+
+    pub one_more_ticked : (q' w' : List ℕ) → t < task_count → length q' ≡ length q → length w' ≡ length w → Slice q' → Slice w'
         → decode (tables q' p w') ≡ tick_task (decode (tables q p w)) t → TickedBelow q₀ p w₀ q' w' (t + 1)
     unfolding numbers_from tick_tasks
-    one-more-ticked q' w' h lq lw bq bw step =
+    one_more_ticked q' w' h lq lw bq bw step =
         let n : task_count - t ≡ suc (task_count - (t + 1)) = omega arith in
         let m : t + 1 ≡ suc t = omega arith in
         record {
@@ -75,19 +88,17 @@ module _ (q₀ p w₀ : List ℕ) where
               ∙ ap (λ (k : ℕ). tick_tasks (decode (tables q p w)) (numbers_from t k)) (sym n) ∙ before.rest;
         }
 
-    pub all-ticked : task_count ≤ t → decode (tables q p w) ≡ tick_tasks (decode (tables q₀ p w₀)) (numbers_from 0 task_count)
+    all-ticked : task_count ≤ t → decode (tables q p w) ≡ tick_tasks (decode (tables q₀ p w₀)) (numbers_from 0 task_count)
     unfolding numbers_from tick_tasks
     all-ticked h =
         let n : 0 ≡ task_count - t = omega arith in
         ap (λ (k : ℕ). tick_tasks (decode (tables q p w)) (numbers_from t k)) n ∙ before.rest
 
-    -- ---- The whole tick
-
-    pub tick-done : task_count ≤ t → right_lengths (tables q₀ p w₀) ≡ true → Slice p → (n woken : ℕ) → n ≡ ones woken
-        → woken ≡ mask (expiring (decode_tasks w₀))
-        → outcome_of (Successful n woken) (tables q p w) ≡ encoded (effect (decode (tables q₀ p w₀)) tick)
+    -- the whole tick
+    pub tick_done : task_count ≤ t → right_lengths (tables q₀ p w₀) ≡ true → Slice p → (value woken : ℕ) → value ≡ ones woken → woken ≡ mask (expiring (decode_tasks w₀))
+        → outcome_of (Ok (Successful value woken)) (tables q p w) ≡ encoded (effect (decode (tables q₀ p w₀)) tick)
     unfolding answer_of effect Tick.effect right_lengths decode
-    tick-done h ok bp n woken counts e =
+    tick_done h ok bp value woken counts e =
         let same : right_lengths (tables q p w) ≡ true = rw (before.queues_size, before.tasks_size) ok in
         let bytes : encode (decode (tables q p w)) ≡ tables q p w =
         encode-decode (tables q p w)
@@ -100,3 +111,5 @@ module _ (q₀ p w₀ : List ℕ) where
         let counted = counts ∙ ap ones e ∙ ones-mask (expiring (decode_tasks w₀)) in
         let left = sym bytes ∙ ap encode (all-ticked h) in
         λ i. record { answer = record { status = SUCCESSFUL; value = counted i; woken = e i }; after = left i }
+
+pub ruleset ticks = (tasks_length, none_ticked, each_task, one_more_ticked, tick_done)

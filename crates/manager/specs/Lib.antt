@@ -1,2 +1,2 @@
-pub mod Creates
 pub mod Outcomes
+pub mod Submits

@@ -1,9 +1,11 @@
-// What a call answers: done with value and woken mask, the caller waits, or refused with a status.
+// What a call answers: how it was completed, or the status that refuses it.
 use records::status::RefusalStatus;
 
-#[derive(Clone, Copy)]
-pub enum Answer {
-    Successful(u32, u32),
+// The call is done, with its value and the mask of the tasks that it woke; or the caller waits.
+#[derive(Clone, Copy, Debug, PartialEq, Eq)]
+pub enum Completion {
+    Successful { value: u32, woken: u32 },
     Waiting,
-    Refused(RefusalStatus),
 }
+
+pub type Answer = Result<Completion, RefusalStatus>;

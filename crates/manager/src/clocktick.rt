@@ -1,4 +1,6 @@
 // The clock tick.
+#![tactic(auto, using(crate::proofs::Calls::tested_ticks, crate::proofs::Ticks::ticks))]
+
 ghost use Rattle.std.specs.Prelude.{◌≡◌, true};
 ghost use Rattle.records.specs.Bytes.{decode, right_lengths, tables};
 ghost use Rattle.specification.specs.Call.{tick};
@@ -7,11 +9,11 @@ ghost use Rattle.specification.specs.Step.{effect, encoded, step};
 ghost use Rattle.common_refusals.specs.Tested.{Tested};
 ghost use Rattle.manager.specs.Outcomes.{outcome_of};
 
-use crate::answer::Answer;
+use crate::answer::{Answer, Completion};
 use common_refusals::table_refusal;
 use coremsg::ticks::{expired_mask, tick_task};
 use records::layout::TASK_COUNT;
-use records::status::Verdict;
+use records::status::RefusalStatus;
 use threadq::masks::ones_in;
 
 // The tick, on sound tables.
@@ -21,22 +23,25 @@ fn tick(queues: &mut [u8], pool: &[u8], tasks: &mut [u8]) -> Answer
         ≡ encoded (effect (decode (tables queues.old pool.now tasks.old)) tick) }
 {
     let woken = expired_mask(tasks);
-    let mut t = 0;
-    while t < TASK_COUNT {
-        t = tick_task(queues, tasks, t);
+    for t in 0..TASK_COUNT {
+        tick_task(queues, tasks, t);
     }
-    Answer::Successful(ones_in(woken), woken)
+    let value = ones_in(woken);
+    Ok(Completion::Successful { value, woken })
 }
 
 // The tick, on tables whose own tests gave this verdict.
-pub fn tick_after(queues: &mut [u8], pool: &[u8], tasks: &mut [u8], verdict: Verdict) -> Answer
+pub fn tick_after(
+    queues: &mut [u8],
+    pool: &[u8],
+    tasks: &mut [u8],
+    verdict: Result<(), RefusalStatus>,
+) -> Answer
     requires { Tested (tables queues.old pool.now tasks.old) verdict }
     ensures { outcome_of result (tables queues.new pool.now tasks.new)
         ≡ step (tables queues.old pool.now tasks.old) tick }
 {
-    if let Verdict::Refused(status) = verdict {
-        return Answer::Refused(status);
-    }
+    verdict?;
     tick(queues, pool, tasks)
 }
 

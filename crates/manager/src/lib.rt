@@ -1,5 +1,5 @@
 // The message queue manager: nine directives and the clock tick, over three lent tables.
-#![tactic(auto)]
+#![tactic(auto, using(crate::proofs::Directives::directives), unfolding(specification::specs::Answer::first_status, ranks::specs::Lists::found_below))]
 
 pub mod answer; // answer.rt: what a call answers
 pub mod clocktick; // clocktick.rt: the clock tick

@@ -1,37 +1,18 @@
 // Broadcast.
-ghost use Rattle.std.specs.Prelude.{◌≡◌, ◌<◌};
-ghost use Rattle.records.specs.Layout.{task_count};
+ghost use Rattle.std.specs.Prelude.{◌≡◌};
 ghost use Rattle.records.specs.Bytes.{tables};
-ghost use Rattle.records.specs.Status.{verdict_status};
-ghost use Rattle.specification.specs.Answer.{first_status};
-ghost use Rattle.specification.specs.Broadcast.{broadcast_tests};
 ghost use Rattle.specification.specs.Call.{call, on_queue, broadcast};
 ghost use Rattle.specification.specs.Step.{step};
 ghost use Rattle.common_refusals.specs.Tested.{Callable};
 ghost use Rattle.manager.specs.Outcomes.{outcome_of, accepted};
 
-use crate::answer::Answer;
+use crate::answer::{Answer, Completion};
 use common_refusals::call_refusal;
 use coremsg::clears::hand_to_all;
-use objects::lookup::usable;
-use records::layout::SLOT_COUNT;
-use records::queue::{QueueRecord, read_queue};
-use records::status::{RefusalStatus, Verdict};
+use objects::lookup::{slot_of, usable};
+use records::queue::read_queue;
+use records::status::RefusalStatus;
 use threadq::masks::ones_in;
-
-// The first refusal, if any.
-fn refusal(q: QueueRecord, caller: usize, id: u32, size: usize) -> Verdict
-    requires { caller < task_count }
-    ensures { verdict_status result ≡ first_status (broadcast_tests q caller id size) }
-{
-    if !usable(q, caller, id) {
-        return Verdict::Refused(RefusalStatus::InvalidId);
-    }
-    if !q.size_allowed(size) {
-        return Verdict::Refused(RefusalStatus::InvalidSize);
-    }
-    Verdict::Passed
-}
 
 // Broadcast, on sound tables and for a caller that may call.
 pub fn broadcast(
@@ -46,14 +27,17 @@ pub fn broadcast(
     ensures { outcome_of result (tables queues.new pool.now tasks.new)
         ≡ accepted (tables queues.old pool.now tasks.old) caller (on_queue id (broadcast message.now)) }
 {
-    let slot = id as usize % SLOT_COUNT;
-    let q = read_queue(queues, slot);
-    let verdict = refusal(q, caller, id, message.len());
-    if let Verdict::Refused(status) = verdict {
-        return Answer::Refused(status);
+    let slot = slot_of(id);
+    let queue = read_queue(queues, slot);
+    if !usable(queue, caller, id) {
+        return Err(RefusalStatus::InvalidId);
+    }
+    if !queue.size_allowed(message.len()) {
+        return Err(RefusalStatus::InvalidSize);
     }
     let woken = hand_to_all(queues, tasks, slot, message);
-    Answer::Successful(ones_in(woken), woken)
+    let value = ones_in(woken);
+    Ok(Completion::Successful { value, woken })
 }
 
 pub fn message_queue_broadcast(
@@ -67,9 +51,6 @@ pub fn message_queue_broadcast(
     ensures { outcome_of result (tables queues.new pool.now tasks.new)
         ≡ step (tables queues.old pool.now tasks.old) (call caller (on_queue id (broadcast message.now))) }
 {
-    let verdict = call_refusal(queues, pool, tasks, caller);
-    if let Verdict::Refused(status) = verdict {
-        return Answer::Refused(status);
-    }
+    call_refusal(queues, pool, tasks, caller)?;
     broadcast(queues, pool, tasks, caller as usize, id, message)
 }

@@ -6,13 +6,11 @@ ghost use Rattle.specification.specs.Step.{step};
 ghost use Rattle.common_refusals.specs.Tested.{Callable};
 ghost use Rattle.manager.specs.Outcomes.{outcome_of, accepted};
 
-use crate::answer::Answer;
+use crate::answer::{Answer, Completion};
 use common_refusals::call_refusal;
 use coremsg::clears::close;
-use objects::lookup::owner_refusal;
-use records::layout::SLOT_COUNT;
+use objects::lookup::{owner_refusal, slot_of};
 use records::queue::read_queue;
-use records::status::Verdict;
 
 // Delete, on sound tables and for a caller that may call.
 pub fn delete(
@@ -26,14 +24,11 @@ pub fn delete(
     ensures { outcome_of result (tables queues.new pool.new tasks.new)
         ≡ accepted (tables queues.old pool.old tasks.old) caller (on_queue id delete) }
 {
-    let slot = id as usize % SLOT_COUNT;
-    let q = read_queue(queues, slot);
-    let verdict = owner_refusal(q, caller, id);
-    if let Verdict::Refused(status) = verdict {
-        return Answer::Refused(status);
-    }
+    let slot = slot_of(id);
+    let queue = read_queue(queues, slot);
+    owner_refusal(queue, caller, id)?;
     let woken = close(queues, pool, tasks, slot);
-    Answer::Successful(0, woken)
+    Ok(Completion::Successful { value: 0, woken })
 }
 
 pub fn message_queue_delete(
@@ -46,9 +41,6 @@ pub fn message_queue_delete(
     ensures { outcome_of result (tables queues.new pool.new tasks.new)
         ≡ step (tables queues.old pool.old tasks.old) (call caller (on_queue id delete)) }
 {
-    let verdict = call_refusal(queues, pool, tasks, caller);
-    if let Verdict::Refused(status) = verdict {
-        return Answer::Refused(status);
-    }
+    call_refusal(queues, pool, tasks, caller)?;
     delete(queues, pool, tasks, caller as usize, id)
 }

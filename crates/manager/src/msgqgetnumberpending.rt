@@ -6,12 +6,11 @@ ghost use Rattle.specification.specs.Step.{step};
 ghost use Rattle.common_refusals.specs.Tested.{Callable};
 ghost use Rattle.manager.specs.Outcomes.{outcome_of, accepted};
 
-use crate::answer::Answer;
+use crate::answer::{Answer, Completion};
 use common_refusals::call_refusal;
-use objects::lookup::usable;
-use records::layout::SLOT_COUNT;
+use objects::lookup::{slot_of, usable};
 use records::queue::read_queue;
-use records::status::{RefusalStatus, Verdict};
+use records::status::RefusalStatus;
 
 // Get number pending, on sound tables and for a caller that may call.
 pub fn get_number_pending(
@@ -25,11 +24,12 @@ pub fn get_number_pending(
     ensures { outcome_of result (tables queues.now pool.now tasks.now)
         ≡ accepted (tables queues.now pool.now tasks.now) caller (on_queue id get_number_pending) }
 {
-    let q = read_queue(queues, id as usize % SLOT_COUNT);
-    if !usable(q, caller, id) {
-        return Answer::Refused(RefusalStatus::InvalidId);
+    let queue = read_queue(queues, slot_of(id));
+    if !usable(queue, caller, id) {
+        return Err(RefusalStatus::InvalidId);
     }
-    Answer::Successful(q.pending as u32, 0)
+    let value = u32::from(queue.pending);
+    Ok(Completion::Successful { value, woken: 0 })
 }
 
 pub fn message_queue_get_number_pending(
@@ -42,9 +42,6 @@ pub fn message_queue_get_number_pending(
     ensures { outcome_of result (tables queues.now pool.now tasks.now)
         ≡ step (tables queues.now pool.now tasks.now) (call caller (on_queue id get_number_pending)) }
 {
-    let verdict = call_refusal(queues, pool, tasks, caller);
-    if let Verdict::Refused(status) = verdict {
-        return Answer::Refused(status);
-    }
+    call_refusal(queues, pool, tasks, caller)?;
     get_number_pending(queues, pool, tasks, caller as usize, id)
 }

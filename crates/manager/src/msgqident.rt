@@ -6,13 +6,13 @@ ghost use Rattle.specification.specs.Step.{step};
 ghost use Rattle.common_refusals.specs.Tested.{Callable};
 ghost use Rattle.manager.specs.Outcomes.{outcome_of, accepted};
 
-use crate::answer::Answer;
+use crate::answer::{Answer, Completion};
 use common_refusals::call_refusal;
 use objects::lookup::id_of;
 use objects::slots::named;
-use records::layout::{SHARE_COUNT, SLOT_COUNT};
+use records::layout::SHARE_COUNT;
 use records::queue::read_queue;
-use records::status::{RefusalStatus, Verdict};
+use records::status::RefusalStatus;
 
 // Ident, on sound tables and for a caller that may call.
 pub fn ident(
@@ -28,17 +28,15 @@ pub fn ident(
         ≡ accepted (tables queues.now pool.now tasks.now) caller (ident name share) }
 {
     if name == 0 {
-        return Answer::Refused(RefusalStatus::InvalidName);
+        return Err(RefusalStatus::InvalidName);
     }
-    if SHARE_COUNT as u32 <= share {
-        return Answer::Refused(RefusalStatus::InvalidNode);
+    if share >= SHARE_COUNT as u32 {
+        return Err(RefusalStatus::InvalidNode);
     }
-    let slot = named(queues, caller, name, share as usize);
-    if SLOT_COUNT <= slot {
-        return Answer::Refused(RefusalStatus::InvalidName);
-    }
-    let q = read_queue(queues, slot);
-    Answer::Successful(id_of(q.generation, slot), 0)
+    let slot = named(queues, caller, name, share as usize).ok_or(RefusalStatus::InvalidName)?;
+    let queue = read_queue(queues, slot);
+    let value = id_of(queue.generation, slot);
+    Ok(Completion::Successful { value, woken: 0 })
 }
 
 pub fn message_queue_ident(
@@ -52,9 +50,6 @@ pub fn message_queue_ident(
     ensures { outcome_of result (tables queues.now pool.now tasks.now)
         ≡ step (tables queues.now pool.now tasks.now) (call caller (ident name share)) }
 {
-    let verdict = call_refusal(queues, pool, tasks, caller);
-    if let Verdict::Refused(status) = verdict {
-        return Answer::Refused(status);
-    }
+    call_refusal(queues, pool, tasks, caller)?;
     ident(queues, pool, tasks, caller as usize, name, share)
 }

@@ -7,7 +7,7 @@ ghost use Rattle.common_refusals.specs.Tested.{Callable};
 ghost use Rattle.manager.specs.Outcomes.{outcome_of, accepted};
 
 use crate::answer::Answer;
-use crate::msgqsubmit::{message_queue_submit, submit};
+use crate::msgqsubmit::{SubmitType, message_queue_submit, submit};
 
 // Send, on sound tables and for a caller that may call.
 pub fn send(
@@ -22,7 +22,7 @@ pub fn send(
     ensures { outcome_of result (tables queues.new pool.new tasks.new)
         ≡ accepted (tables queues.old pool.old tasks.old) caller (on_queue id (send message.now)) }
 {
-    submit(queues, pool, tasks, caller, id, message, false)
+    submit(queues, pool, tasks, caller, id, message, SubmitType::Send)
 }
 
 pub fn message_queue_send(
@@ -36,5 +36,5 @@ pub fn message_queue_send(
     ensures { outcome_of result (tables queues.new pool.new tasks.new)
         ≡ step (tables queues.old pool.old tasks.old) (call caller (on_queue id (send message.now))) }
 {
-    message_queue_submit(queues, pool, tasks, caller, id, message, false)
+    message_queue_submit(queues, pool, tasks, caller, id, message, SubmitType::Send)
 }

@@ -1,48 +1,41 @@
 // What send and urgent share: the waiter at rank 0 gets the message, or it is held in a buffer.
-ghost use Rattle.std.specs.Prelude.{◌≡◌, ◌<◌, if◌then◌else◌};
-ghost use Rattle.records.specs.Layout.{task_count};
+ghost use Rattle.std.specs.Prelude.{◌≡◌};
 ghost use Rattle.records.specs.Bytes.{tables};
-ghost use Rattle.records.specs.Status.{verdict_status};
-ghost use Rattle.specification.specs.Answer.{first_status};
-ghost use Rattle.specification.specs.Submit.{submit_tests};
-ghost use Rattle.specification.specs.Call.{call, on_queue, send, urgent};
+ghost use Rattle.specification.specs.Call.{call, on_queue};
 ghost use Rattle.specification.specs.Step.{step};
 ghost use Rattle.common_refusals.specs.Tested.{Callable};
 ghost use Rattle.manager.specs.Outcomes.{outcome_of, accepted};
+ghost use Rattle.manager.specs.Submits.{submit_operation, rank_at};
 
-use crate::answer::Answer;
+use crate::answer::{Answer, Completion};
 use common_refusals::call_refusal;
-use coremsg::messages::{lowest_free_buffer, rank_of};
+use coremsg::messages::lowest_free_buffer;
 use coremsg::steps::{hand_over, put_into};
-use objects::lookup::usable;
-use records::layout::{BUFFER_COUNT, SLOT_COUNT, TASK_COUNT};
+use objects::lookup::{slot_of, usable};
 use records::queue::{QueueRecord, read_queue};
 use records::shares::share_of_slot;
-use records::status::{RefusalStatus, Verdict};
+use records::status::RefusalStatus;
 use threadq::masks::task_bit;
 use threadq::waiters::first_waiter;
 
-// The first refusal, if any. Task t is the first waiter, and b the buffer that would be used.
-fn refusal(q: QueueRecord, caller: usize, id: u32, size: usize, t: usize, b: usize) -> Verdict
-    requires { caller < task_count }
-    ensures { verdict_status result ≡ first_status (submit_tests q caller id size t b) }
-{
-    if !usable(q, caller, id) {
-        return Verdict::Refused(RefusalStatus::InvalidId);
-    }
-    if !q.size_allowed(size) {
-        return Verdict::Refused(RefusalStatus::InvalidSize);
-    }
-    if (TASK_COUNT <= t) & q.is_full() {
-        return Verdict::Refused(RefusalStatus::TooMany);
-    }
-    if (TASK_COUNT <= t) & (BUFFER_COUNT <= b) {
-        return Verdict::Refused(RefusalStatus::NoBuffer);
-    }
-    Verdict::Passed
+// What is submitted: urgent puts its message at the front of the queue, and send at the rear.
+#[derive(Clone, Copy, Debug, PartialEq, Eq)]
+pub enum SubmitType {
+    Send,
+    Urgent,
 }
 
-// Urgent (at the front) or send, on sound tables and for a caller that may call.
+// The rank that the message gets.
+fn rank_at(q: QueueRecord, submit_type: SubmitType) -> u8
+    ensures { result ≡ rank_at submit_type q }
+{
+    match submit_type {
+        SubmitType::Send => q.pending,
+        SubmitType::Urgent => 0,
+    }
+}
+
+// Urgent or send, on sound tables and for a caller that may call.
 pub fn submit(
     queues: &mut [u8],
     pool: &mut [u8],
@@ -50,27 +43,39 @@ pub fn submit(
     caller: usize,
     id: u32,
     message: &[u8],
-    front: bool,
+    submit_type: SubmitType,
 ) -> Answer
     requires { Callable (tables queues.old pool.old tasks.old) caller }
     ensures { outcome_of result (tables queues.new pool.new tasks.new)
         ≡ accepted (tables queues.old pool.old tasks.old) caller
-        (on_queue id (if front then urgent message.now else send message.now)) }
+        (on_queue id (submit_operation submit_type message.now)) }
 {
-    let slot = id as usize % SLOT_COUNT;
-    let q = read_queue(queues, slot);
-    let t = first_waiter(tasks, slot);
-    let b = lowest_free_buffer(pool, share_of_slot(slot));
-    let verdict = refusal(q, caller, id, message.len(), t, b);
-    if let Verdict::Refused(status) = verdict {
-        return Answer::Refused(status);
+    let slot = slot_of(id);
+    let queue = read_queue(queues, slot);
+    if !usable(queue, caller, id) {
+        return Err(RefusalStatus::InvalidId);
     }
-    if t < TASK_COUNT {
-        hand_over(queues, tasks, t, slot, message);
-        return Answer::Successful(0, task_bit(t));
+    if !queue.size_allowed(message.len()) {
+        return Err(RefusalStatus::InvalidSize);
     }
-    put_into(queues, pool, b, slot, rank_of(q, front), message);
-    Answer::Successful(0, 0)
+    if let Some(waiter) = first_waiter(tasks, slot) {
+        hand_over(queues, tasks, waiter, slot, message);
+        let woken = task_bit(waiter);
+        return Ok(Completion::Successful { value: 0, woken });
+    }
+    if queue.is_full() {
+        return Err(RefusalStatus::TooMany);
+    }
+    let buffer = lowest_free_buffer(pool, share_of_slot(slot)).ok_or(RefusalStatus::NoBuffer)?;
+    put_into(
+        queues,
+        pool,
+        buffer,
+        slot,
+        rank_at(queue, submit_type),
+        message,
+    );
+    Ok(Completion::Successful { value: 0, woken: 0 })
 }
 
 // Urgent or send, on any tables.
@@ -81,15 +86,20 @@ pub fn message_queue_submit(
     caller: u32,
     id: u32,
     message: &[u8],
-    front: bool,
+    submit_type: SubmitType,
 ) -> Answer
     ensures { outcome_of result (tables queues.new pool.new tasks.new)
         ≡ step (tables queues.old pool.old tasks.old)
-        (call caller (on_queue id (if front then urgent message.now else send message.now))) }
+        (call caller (on_queue id (submit_operation submit_type message.now))) }
 {
-    let verdict = call_refusal(queues, pool, tasks, caller);
-    if let Verdict::Refused(status) = verdict {
-        return Answer::Refused(status);
-    }
-    submit(queues, pool, tasks, caller as usize, id, message, front)
+    call_refusal(queues, pool, tasks, caller)?;
+    submit(
+        queues,
+        pool,
+        tasks,
+        caller as usize,
+        id,
+        message,
+        submit_type,
+    )
 }

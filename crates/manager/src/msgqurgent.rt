@@ -7,7 +7,7 @@ ghost use Rattle.common_refusals.specs.Tested.{Callable};
 ghost use Rattle.manager.specs.Outcomes.{outcome_of, accepted};
 
 use crate::answer::Answer;
-use crate::msgqsubmit::{message_queue_submit, submit};
+use crate::msgqsubmit::{SubmitType, message_queue_submit, submit};
 
 // Urgent, on sound tables and for a caller that may call.
 pub fn urgent(
@@ -22,7 +22,7 @@ pub fn urgent(
     ensures { outcome_of result (tables queues.new pool.new tasks.new)
         ≡ accepted (tables queues.old pool.old tasks.old) caller (on_queue id (urgent message.now)) }
 {
-    submit(queues, pool, tasks, caller, id, message, true)
+    submit(queues, pool, tasks, caller, id, message, SubmitType::Urgent)
 }
 
 pub fn message_queue_urgent(
@@ -36,5 +36,5 @@ pub fn message_queue_urgent(
     ensures { outcome_of result (tables queues.new pool.new tasks.new)
         ≡ step (tables queues.old pool.old tasks.old) (call caller (on_queue id (urgent message.now))) }
 {
-    message_queue_submit(queues, pool, tasks, caller, id, message, true)
+    message_queue_submit(queues, pool, tasks, caller, id, message, SubmitType::Urgent)
 }

@@ -1,19 +1,32 @@
-// The answer buffer.
-ghost use Rattle.std.specs.Prelude.{◌≡◌, length};
+// The answer buffer, and the status of a function without one.
+ghost use Rattle.std.specs.Prelude.{◌≡◌, ◌≢◌, length};
+ghost use Rattle.records.specs.Status.{BAD-SHAPE};
 ghost use Rattle.manager.specs.Outcomes.{answer_of};
 ghost use Rattle.calllog.specs.CallLog.{answer_width};
 ghost use Rattle.logged_calls.specs.LoggedCall.{answer_record};
+ghost use Rattle.message_manager.specs.Interface.{done_status};
 
 use logged_calls::answer::answer_record;
 use manager::answer::Answer;
-use octets::copy::copy_into;
+use records::status::{BAD_SHAPE, SUCCESSFUL};
 
-// Writes the answer record of a call whose record would have this first byte. Returns the status.
-pub fn write_answer(buffer: &mut [u8], a: Answer, first_byte: u8) -> u32
-    requires { length buffer.old ≡ answer_width }
-    ensures { (buffer.new ≡ answer_record (answer_of a) first_byte) × (result ≡ (answer_of a).status) }
+// Makes a call, writes its answer record with this first byte, and returns its status. A buffer of another length than 16 bytes gets 16,
+// and the call is not made.
+pub fn answered<F: FnMut() -> Answer>(buffer: &mut [u8], first_byte: u8, call: &mut F) -> u32
+    requires { F.pre call.old }
+    ensures made { length buffer.old ≡ answer_width → (a : _) × (F.step call.old a call.new × ((buffer.new ≡ answer_record (answer_of a) first_byte) × (result ≡ (answer_of a).status))) }
+    ensures not_made { length buffer.old ≢ answer_width → (call.new ≡ call.old) × ((buffer.new ≡ buffer.old) × (result ≡ BAD-SHAPE)) }
 {
-    let r = answer_record(a, first_byte);
-    copy_into(buffer, 0, &r);
-    buffer[0] as u32
+    let Some(record) = buffer.as_mut_array() else {
+        return u32::from(BAD_SHAPE);
+    };
+    *record = answer_record(call(), first_byte);
+    u32::from(record[0])
+}
+
+// 0 for what was done, 16 where nothing was.
+pub fn done_status(done: bool) -> u32
+    ensures { result ≡ done_status done }
+{
+    u32::from(if done { SUCCESSFUL } else { BAD_SHAPE })
 }

@@ -5,13 +5,12 @@ ghost use Rattle.records.specs.Bytes.{tables};
 ghost use Rattle.specification.specs.Call.{call, tick, create, ident, on_queue, delete, send, urgent, broadcast, receive, get_number_pending, flush};
 ghost use Rattle.message_manager.specs.Interface.{called};
 
-use crate::answer::write_answer;
-use calllog::layout::ANSWER_WIDTH;
+use crate::answer::answered;
+use calllog::operation::Operation;
 use manager::{
     clocktick, msgqbroadcast, msgqcreate, msgqdelete, msgqflush, msgqgetnumberpending, msgqident,
     msgqreceive, msgqsend, msgqurgent,
 };
-use records::status::BAD_SHAPE;
 
 // Creates a queue. Value: its id.
 #[unsafe(no_mangle)]
@@ -30,13 +29,13 @@ pub extern "C" fn message_queue_create(
         ≡ called answer.old (tables queues.old pool.now tasks.now)
         (call caller (create name limit max_size attributes)) }
 {
-    if answer.len() != ANSWER_WIDTH {
-        return BAD_SHAPE as u32;
-    }
-    let a = msgqcreate::message_queue_create(
-        queues, pool, tasks, caller, name, limit, max_size, attributes,
-    );
-    write_answer(answer, a, 1)
+    answered(
+        answer,
+        Operation::Create as u8,
+        &mut || msgqcreate::message_queue_create(
+            queues, pool, tasks, caller, name, limit, max_size, attributes,
+        ),
+    )
 }
 
 // Looks a name up in a share. Value: the id.
@@ -54,11 +53,11 @@ pub extern "C" fn message_queue_ident(
         ≡ called answer.old (tables queues.now pool.now tasks.now)
         (call caller (ident name share)) }
 {
-    if answer.len() != ANSWER_WIDTH {
-        return BAD_SHAPE as u32;
-    }
-    let a = msgqident::message_queue_ident(queues, pool, tasks, caller, name, share);
-    write_answer(answer, a, 2)
+    answered(
+        answer,
+        Operation::Ident as u8,
+        &mut || msgqident::message_queue_ident(queues, pool, tasks, caller, name, share),
+    )
 }
 
 // Deletes a queue. Mask: the tasks that waited in it.
@@ -75,11 +74,11 @@ pub extern "C" fn message_queue_delete(
         ≡ called answer.old (tables queues.old pool.old tasks.old)
         (call caller (on_queue id delete)) }
 {
-    if answer.len() != ANSWER_WIDTH {
-        return BAD_SHAPE as u32;
-    }
-    let a = msgqdelete::message_queue_delete(queues, pool, tasks, caller, id);
-    write_answer(answer, a, 3)
+    answered(
+        answer,
+        Operation::Delete as u8,
+        &mut || msgqdelete::message_queue_delete(queues, pool, tasks, caller, id),
+    )
 }
 
 // Sends a message to the rear of a queue. Mask: the task that it wakes.
@@ -97,11 +96,11 @@ pub extern "C" fn message_queue_send(
         ≡ called answer.old (tables queues.old pool.old tasks.old)
         (call caller (on_queue id (send message.now))) }
 {
-    if answer.len() != ANSWER_WIDTH {
-        return BAD_SHAPE as u32;
-    }
-    let a = msgqsend::message_queue_send(queues, pool, tasks, caller, id, message);
-    write_answer(answer, a, 4)
+    answered(
+        answer,
+        Operation::Send as u8,
+        &mut || msgqsend::message_queue_send(queues, pool, tasks, caller, id, message),
+    )
 }
 
 // Sends a message to the front of a queue. Mask: the task that it wakes.
@@ -119,11 +118,11 @@ pub extern "C" fn message_queue_urgent(
         ≡ called answer.old (tables queues.old pool.old tasks.old)
         (call caller (on_queue id (urgent message.now))) }
 {
-    if answer.len() != ANSWER_WIDTH {
-        return BAD_SHAPE as u32;
-    }
-    let a = msgqurgent::message_queue_urgent(queues, pool, tasks, caller, id, message);
-    write_answer(answer, a, 5)
+    answered(
+        answer,
+        Operation::Urgent as u8,
+        &mut || msgqurgent::message_queue_urgent(queues, pool, tasks, caller, id, message),
+    )
 }
 
 // Sends a message to every task that waits in a queue. Value: how many. Mask: which.
@@ -141,11 +140,11 @@ pub extern "C" fn message_queue_broadcast(
         ≡ called answer.old (tables queues.old pool.now tasks.old)
         (call caller (on_queue id (broadcast message.now))) }
 {
-    if answer.len() != ANSWER_WIDTH {
-        return BAD_SHAPE as u32;
-    }
-    let a = msgqbroadcast::message_queue_broadcast(queues, pool, tasks, caller, id, message);
-    write_answer(answer, a, 6)
+    answered(
+        answer,
+        Operation::Broadcast as u8,
+        &mut || msgqbroadcast::message_queue_broadcast(queues, pool, tasks, caller, id, message),
+    )
 }
 
 // Receives a message into the record of the caller, or waits for one. Value: its length.
@@ -164,11 +163,11 @@ pub extern "C" fn message_queue_receive(
         ≡ called answer.old (tables queues.old pool.old tasks.old)
         (call caller (on_queue id (receive option ticks))) }
 {
-    if answer.len() != ANSWER_WIDTH {
-        return BAD_SHAPE as u32;
-    }
-    let a = msgqreceive::message_queue_receive(queues, pool, tasks, caller, id, option, ticks);
-    write_answer(answer, a, 7)
+    answered(
+        answer,
+        Operation::Receive as u8,
+        &mut || msgqreceive::message_queue_receive(queues, pool, tasks, caller, id, option, ticks),
+    )
 }
 
 // Value: how many messages a queue holds.
@@ -185,11 +184,13 @@ pub extern "C" fn message_queue_get_number_pending(
         ≡ called answer.old (tables queues.now pool.now tasks.now)
         (call caller (on_queue id get_number_pending)) }
 {
-    if answer.len() != ANSWER_WIDTH {
-        return BAD_SHAPE as u32;
-    }
-    let a = msgqgetnumberpending::message_queue_get_number_pending(queues, pool, tasks, caller, id);
-    write_answer(answer, a, 8)
+    answered(
+        answer,
+        Operation::Pending as u8,
+        &mut || msgqgetnumberpending::message_queue_get_number_pending(
+            queues, pool, tasks, caller, id,
+        ),
+    )
 }
 
 // Removes the messages of a queue. Value: how many.
@@ -206,11 +207,11 @@ pub extern "C" fn message_queue_flush(
         ≡ called answer.old (tables queues.old pool.old tasks.now)
         (call caller (on_queue id flush)) }
 {
-    if answer.len() != ANSWER_WIDTH {
-        return BAD_SHAPE as u32;
-    }
-    let a = msgqflush::message_queue_flush(queues, pool, tasks, caller, id);
-    write_answer(answer, a, 9)
+    answered(
+        answer,
+        Operation::Flush as u8,
+        &mut || msgqflush::message_queue_flush(queues, pool, tasks, caller, id),
+    )
 }
 
 // A clock tick. Value: how many waits ended by it. Mask: whose.
@@ -225,9 +226,9 @@ pub extern "C" fn message_clock_tick(
         ≡ called answer.old (tables queues.old pool.now tasks.old)
         tick }
 {
-    if answer.len() != ANSWER_WIDTH {
-        return BAD_SHAPE as u32;
-    }
-    let a = clocktick::clock_tick(queues, pool, tasks);
-    write_answer(answer, a, 10)
+    answered(
+        answer,
+        Operation::Tick as u8,
+        &mut || clocktick::clock_tick(queues, pool, tasks),
+    )
 }

@@ -3,8 +3,8 @@ ghost use Rattle.std.specs.Prelude.{◌≡◌};
 ghost use Rattle.records.specs.Bytes.{tables};
 ghost use Rattle.message_manager.specs.Interface.{fresh_tables_made};
 
+use crate::answer::done_status;
 use fresh_tables::make::make_fresh;
-use records::status::{BAD_SHAPE, SUCCESSFUL};
 
 // Makes the tables fresh. Where a table has a wrong length, or the priorities are not those of 32 tasks, each 1 to 255, returns 16 and
 // does nothing.
@@ -18,8 +18,5 @@ pub extern "C" fn message_manager_fresh_tables(
     ensures { (record { status = result; after = tables queues.new pool.new tasks.new })
         ≡ fresh_tables_made (tables queues.old pool.old tasks.old) priorities.now }
 {
-    if make_fresh(queues, pool, tasks, priorities) {
-        return SUCCESSFUL as u32;
-    }
-    BAD_SHAPE as u32
+    done_status(make_fresh(queues, pool, tasks, priorities))
 }

@@ -1,18 +1,19 @@
 -- Zero bytes. Assumes nothing.
-use Prim.Native.Nat.{ℕ, ◌+◌, ◌-◌, ◌*◌, ◌≤◌, ◌<◌}
+use Prim.Native.Nat.{ℕ, zero, suc, ◌+◌, ◌-◌, ◌*◌, ◌≤◌, ◌<◌, min}
 use native.Mathlib.Omega.{arith}
-use mathlib.Core.Path.{◌≡◌, refl, sym, ap, ap₂, ◌∙◌}
+use mathlib.Core.Path.{◌≡◌, refl, sym, ap, ap₂, ◌∙◌, subst}
 use mathlib.Core.Bool.{Bool, true, false, ◌&&◌, and_assoc, and-true}
-use mathlib.Core.Logic.{◌⊎◌, inl, inr}
+use mathlib.Core.Logic.{◌⊎◌, inl, inr, ⊎_elim}
 use mathlib.Core.List.{List, [], ◌∷◌, ◌++◌}
 use lib.Dec.{eqb}
-use lib.ListN.{length, take, drop, length-drop, drop_of_length-le}
+use lib.ListN.{length, replicate, take, drop, length-drop, drop_of_length-le}
 use lib.Seq.{drop-cons, take_all}
 use borrow.Author.Tests.{eq-eqb, ne_eqb}
 use Rattle.ranks.specs.Lists.{all_zero}
 use Rattle.ranks.specs.Table.{slice, byte}
 use Rattle.ranks.proofs.Lists.{zeros-cons, zeros-nil}
-use Rattle.ranks.proofs.Tests.{same?}
+use Rattle.ranks.proofs.Tests.{same?, both, lt-or-ge}
+use lib.Pointwise.{pointwise}
 use Rattle.octets.specs.LittleEndian.{byte_values, from_little_endian}
 use Rattle.octets.proofs.NumberBytes.{slice-add, part-and-rest}
 
@@ -31,9 +32,9 @@ pub zeros-rest : (i n : ℕ) (r : List ℕ) → all_zero (slice i n r) && all_ze
 zeros-rest i n r = sym (ap all_zero (part-and-rest i n r) ∙ zeros-append (slice i n r) (drop (i + n) r))
 
 -- the last `n` bytes
-pub zeros-to-end : (r : List ℕ) (n : ℕ) → n ≤ length r → all_zero (slice (length r - n) n r) ≡ all_zero (drop (length r - n) r)
+pub zeros-to-end : (r : List ℕ) (i n : ℕ) → i + n ≡ length r → all_zero (slice i n r) ≡ all_zero (drop i r)
 unfolding slice
-zeros-to-end r n h = ap all_zero (take_all n (drop (length r - n) r) (omega (arith, length-drop (length r - n) r)))
+zeros-to-end r i n h = ap all_zero (take_all n (drop i r) (omega (arith, length-drop i r)))
 
 -- a number is zero if its bytes are
 pub zero_number : (bs : List ℕ) → eqb (from_little_endian bs) 0 ≡ all_zero bs
@@ -56,34 +57,46 @@ pub zeros-one : (r : List ℕ) (i : ℕ) → i < length r → eqb (byte i r) 0 �
 unfolding slice
 zeros-one r i h = sym (ap (λ (l : List ℕ). all_zero (take 1 l)) (drop-cons r i 0 h) ∙ simp (zeros-cons, zeros-nil, and-true))
 
--- ---- A loop over the bytes from a place on: what is left to look at decides
+-- bytes that are equal to as many zeros
+pub pointwise-zeros : (n : ℕ) (r : List ℕ) → length r ≡ n → pointwise eqb r (replicate n 0) ≡ all_zero r
+pointwise-zeros zero [] e = sym zeros-nil
+pointwise-zeros zero (b ∷ r) e = absurd (omega arith)
+pointwise-zeros (suc n) [] e = absurd (omega arith)
+pointwise-zeros (suc n) (b ∷ r) e = ap (λ (z : Bool). eqb b 0 && z) (pointwise-zeros n r (omega arith)) ∙ sym (zeros-cons b r)
 
-module _ (r : List ℕ) (i : ℕ) (ok : Bool) {z : Bool} (inv : (ok && all_zero (drop i r)) ≡ z) where
-  -- `n` bytes more
-  pub zeros-more : (n : ℕ) (b : Bool) → b ≡ all_zero (slice i n r) → (ok && b && all_zero (drop (i + n) r)) ≡ z
-  zeros-more n b e =
-      and_assoc ok b (all_zero (drop (i + n) r)) ∙ ap (λ (x : Bool). ok && x) (ap (λ (x : Bool). x && all_zero (drop (i + n) r)) e ∙ zeros-rest i n r) ∙ inv
+-- what stands from a place on, which may be behind the end
+pub rest-from : (n m : ℕ) (r : List ℕ) → m ≡ min n (length r) → take (length r - m) (drop m r) ≡ drop n r
+rest-from n m r e =
+    take_all (length r - m) (drop m r) (omega (arith, length-drop m r))
+    ∙ ⊎_elim (λ (h : n < length r). ap (λ (k : ℕ). drop k r) (let f : m ≡ n = omega arith in f))
+    (λ (h : length r ≤ n). drop_of_length-le r (omega arith) ∙ sym (drop_of_length-le r h)) (lt-or-ge n (length r))
 
-  pub zeros-end : length r ≤ i → ok ≡ z
-  zeros-end h = sym (and-true ok) ∙ ap (λ (b : Bool). ok && b) (sym (ap all_zero (drop_of_length-le r h) ∙ zeros-nil)) ∙ inv
+-- one byte more
+pub zeros-push : (r : List ℕ) (b : ℕ) → all_zero (r ++ (b ∷ [])) ≡ all_zero r && eqb b 0
+zeros-push r b = zeros-append r (b ∷ []) ∙ ap (λ (z : Bool). all_zero r && z) (simp (zeros-cons, zeros-nil, and-true))
 
-  -- the zeros from a later place on were seen too, and they include the rest
-  pub zeros-overlap : (from last : ℕ) → from ≤ last → last ≤ i → z ≡ all_zero (drop from r) → ok && all_zero (drop last r) ≡ z
-  zeros-overlap from last h k e =
-      go ok (all_zero (drop last r)) (all_zero (drop i r)) inv (λ p. zeros-later from last h (sym e ∙ p)) (zeros-later last i k)
+-- ---- A loop over blocks
+
+module _ (r : List ℕ) where
+  -- a block of zeros decides nothing
+  pub zeros-more : (i n : ℕ) → all_zero (slice i n r) ≡ true → all_zero (drop (i + n) r) ≡ all_zero (drop i r)
+  zeros-more i n e = ap (λ (z : Bool). z && all_zero (drop (i + n) r)) (sym e) ∙ zeros-rest i n r
+
+  -- and another one decides
+  pub zeros-stop : (i n : ℕ) → all_zero (slice i n r) ≡ false → all_zero (drop i r) ≡ false
+  zeros-stop i n e = sym (zeros-rest i n r) ∙ ap (λ (z : Bool). z && all_zero (drop (i + n) r)) e
+
+  zeros-later : (a b : ℕ) → a ≤ b → all_zero (drop a r) ≡ true → all_zero (drop b r) ≡ true
+  zeros-later a b h e =
+      let k : a + (b - a) ≡ b = omega arith in
+      let both-zero = both (all_zero (slice a (b - a) r)) (all_zero (drop (a + (b - a)) r)) (zeros-rest a (b - a) r ∙ e) in
+      subst (λ (n : ℕ). all_zero (drop n r) ≡ true) k both-zero.1
+
+  -- what the bytes from a later place on decide, the bytes from a place between decide too
+  pub zeros-between : (a b c : ℕ) → a ≤ b → b ≤ c → all_zero (drop c r) ≡ all_zero (drop a r) → all_zero (drop b r) ≡ all_zero (drop a r)
+  zeros-between a b c h k e = same (all_zero (drop a r)) (all_zero (drop b r)) (zeros-later a b h) (λ p. sym e ∙ zeros-later b c k p)
     where
-      zeros-later : (a b : ℕ) → a ≤ b → all_zero (drop a r) ≡ true → all_zero (drop b r) ≡ true
-      zeros-later a b h p =
-          right (all_zero (slice a (b - a) r)) (all_zero (drop b r))
-          (ap (λ (n : ℕ). all_zero (slice a (b - a) r) && all_zero (drop n r)) (let e : b ≡ a + (b - a) = omega arith in e) ∙ zeros-rest a (b - a) r ∙ p)
-        where
-          right : (x y : Bool) → x && y ≡ true → y ≡ true
-          right true y e = e
-          right false true e = refl
-          right false false e = e
-
-      go : (ok l t : Bool) {z : Bool} → (ok && t) ≡ z → (z ≡ true → l ≡ true) → (l ≡ true → t ≡ true) → ok && l ≡ z
-      go false l t e f g = e
-      go true true t e f g = sym (g refl) ∙ e
-      go true false t {z = true} e f g = f refl
-      go true false t {z = false} e f g = refl
+      same : (x y : Bool) → (x ≡ true → y ≡ true) → (y ≡ true → x ≡ true) → y ≡ x
+      same true y f g = f refl
+      same false true f g = sym (g refl)
+      same false false f g = refl

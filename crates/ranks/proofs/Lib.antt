@@ -1,10 +1,10 @@
 pub mod ByRank
 pub mod Found
+pub mod FoundBelow
 pub mod InTurn
 pub mod Lists
 pub mod Ranked
 pub mod Ranks
 pub mod Searches
-pub mod Steps
 pub mod Table
 pub mod Tests

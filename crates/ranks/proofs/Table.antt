@@ -2,13 +2,16 @@
 use native.Mathlib.Omega.{arith}
 use Prim.Native.Nat.{ℕ, zero, suc, ◌+◌, ◌*◌, ◌≤◌, ◌<◌}
 use native.Mathlib.Nat.{not-suc-le-zero, zero-mul, suc-mul, mul-le-mul_right, zero-add, suc-add}
-use mathlib.Core.Path.{◌≡◌, refl, sym, ap, ap₂, ◌∙◌}
+use mathlib.Core.Path.{◌≡◌, refl, sym, ap, ap₂, ◌∙◌, subst}
+use mathlib.Core.Logic.{⊎_elim}
 use mathlib.Core.List.{List, [], ◌∷◌, ◌++◌, append_assoc}
 use lib.ListN.{length, get_or, take, drop, set, length-drop}
-use lib.Seq.{take-nil, length-take-le, take_at, drop_at, take-take, drop-drop, take-append-le, drop-append-le, get_or-drop, get_or-take, take-set-le, take-set-lt, drop-set-lt, drop-set-add, set-set, set-get_or}
+use lib.Seq.{take-nil, length-take-le, take_at, drop_at, take-take, drop-drop, take-append-le, drop-append-le, get_or-drop, get_or-take, take-set-le, take-set-lt, drop-set-lt, drop-set-add, set-set, get_or-set_same, get_or-set_other}
 use Rattle.ranks.specs.Position.{Position}
 use Rattle.ranks.specs.Table.{slice, byte, records, spliced, position_in, put_position, moved, Shape}
-use Rattle.ranks.proofs.InTurn.{ChangedUpTo, still, one-more-changed}
+use Rattle.ranks.specs.Lists.{map_with_index}
+use Rattle.ranks.proofs.Lists.{is_mapped}
+use Rattle.ranks.proofs.Tests.{same?}
 
 -- ---- Records
 
@@ -124,7 +127,7 @@ position-slice i n a t h =
       rank = (ap (λ (m : ℕ). byte m t) e ∙ sym (byte-slice i n t (a + 1) h)) j;
     }
 
--- ---- A loop that changes each record's place
+-- ---- The position of a record
 
 -- record i lies in the table
 pub inside : {stride place count size : ℕ} → Shape stride place count size → (i : ℕ) → i < count → i * stride + stride ≤ size
@@ -134,29 +137,61 @@ inside {stride} {place} {count} {size} s i h = omega (arith, s.whole, before str
 pub position-inside : {stride place count size : ℕ} → Shape stride place count size → (i : ℕ) → i < count → i * stride + place + 1 < size
 position-inside s i h = omega (arith, s.inside, inside s i h)
 
--- a position written where it stands changes nothing
-pub put_same : (i : ℕ) (t : List ℕ) {p : Position} → p ≡ position_in i t → t ≡ put_position i p t
-put_same i t {p} read =
-    sym (ap (λ (q : Position). put_position i q t) read ∙ ap (λ (l : List ℕ). set l (i + 1) (byte (i + 1) t)) (set-get_or t i 0) ∙ set-get_or t (i + 1) 0)
+module _ {n a k : ℕ} (t : List ℕ) (shape : Shape n a k (length t)) (i : ℕ) (h : i < k) where
+  -- the position of record i, read
+  pub position_read : position_in (i * n + a) t ≡ position_in a (get_or (records k n t) i [])
+  position_read = position-slice (i * n) n a t shape.inside ∙ ap (position_in a) (sym (at_records k n t i h))
 
--- a position read, changed and written back
-pub put-changed : (f : Position → Position) (i : ℕ) (t : List ℕ) {u : List ℕ} {p q : Position} → p ≡ position_in i t → q ≡ f p → u ≡ put_position i q t
-    → u ≡ put_position i (f (position_in i t)) t
-put-changed f i t read changed written = written ∙ ap (λ (p : Position). put_position i p t) (changed ∙ ap f read)
+  -- and written
+  pub position_written : (p : Position) → records k n (put_position (i * n + a) p t) ≡ set (records k n t) i (put_position a p (get_or (records k n t) i []))
+  position_written p =
+      records-put-position k n t i a p shape.inside h (inside shape i h)
+      ∙ ap (λ (r : List ℕ). set (records k n t) i (put_position a p r)) (sym (at_records k n t i h))
 
-module _ {n a k : ℕ} (F : ℕ → Position → Position) {t₀ t : List ℕ} {i : ℕ} (shape : Shape n a k (length t₀)) (hi : i < k)
-    (changed : ChangedUpTo (records k n) k (moved a F) t₀ t i) where
-  record-still : slice (i * n) n t ≡ get_or (records k n t₀) i []
-  record-still = sym (at_records k n t i hi) ∙ still [] (length-records k n t₀) changed hi
+-- ---- A loop that gives each record another position
 
-  pub position-still : position_in (i * n + a) t ≡ position_in a (get_or (records k n t₀) i [])
-  position-still = position-slice (i * n) n a t shape.inside ∙ ap (position_in a) record-still
+-- The k records of `t` have the positions that `R` gives those of `t₀`, below `i`, and the others are as they were.
+pub record SteppedUpTo (n a k : ℕ) (R : ℕ → Position → Position → Type 0) (t₀ t : List ℕ) (i : ℕ) : Type 0 where
+  pub size : length t ≡ length t₀
+  pub below : (j : ℕ) → j < i → (p : Position) × R j (position_in a (get_or (records k n t₀) j [])) p × (get_or (records k n t) j [] ≡ put_position a p (get_or (records k n t₀) j []))
+  pub rest : (j : ℕ) → i ≤ j → get_or (records k n t) j [] ≡ get_or (records k n t₀) j []
 
-  pub one-more-moved : {u : List ℕ} → length u ≡ length t → u ≡ put_position (i * n + a) (F i (position_in (i * n + a) t)) t
-      → ChangedUpTo (records k n) k (moved a F) t₀ u (i + 1)
-  unfolding moved
-  one-more-moved {u} l f =
-      one-more-changed [] (length-records k n t₀) changed hi l
-      (ap (records k n) f
-      ∙ records-put-position k n t i a (F i (position_in (i * n + a) t)) shape.inside hi (omega (arith, inside shape i hi, changed.size))
-      ∙ ap (set (records k n t) i) (ap₂ {C = List ℕ} (put_position a) (ap (F i) position-still) record-still))
+module _ {n a k : ℕ} {R : ℕ → Position → Position → Type 0} {t₀ t : List ℕ} {i : ℕ} (stepped : SteppedUpTo n a k R t₀ t i) (hi : i < k) (p q : Position)
+    (read : p ≡ position_in a (get_or (records k n t) i [])) (made : R i p q) where
+  -- record i gets the position that the step made of the one that was read
+  pub one-more-stepped : {u : List ℕ} → length u ≡ length t → records k n u ≡ set (records k n t) i (put_position a q (get_or (records k n t) i []))
+      → SteppedUpTo n a k R t₀ u (i + 1)
+  one-more-stepped {u} l written =
+      record {
+        size = l ∙ stepped.size;
+        below = λ j h. ⊎_elim (λ (e : j ≡ i). subst G (sym e) here) (λ ne. before-it j (omega arith) ne) (same? j i);
+        rest = λ j h. other j (λ e. omega arith) ∙ stepped.rest j (omega arith);
+      }
+    where
+      G : ℕ → Type 0
+      G j = (r : Position) × R j (position_in a (get_or (records k n t₀) j [])) r × (get_or (records k n u) j [] ≡ put_position a r (get_or (records k n t₀) j []))
+
+      at-all : (j : ℕ) → get_or (records k n u) j [] ≡ get_or (set (records k n t) i (put_position a q (get_or (records k n t) i []))) j []
+      at-all j = ap (λ (l : List (List ℕ)). get_or l j []) written
+
+      other : (j : ℕ) → (j ≡ i → ⊥) → get_or (records k n u) j [] ≡ get_or (records k n t) j []
+      other j ne = at-all j ∙ get_or-set_other (records k n t) i j _ [] ne
+
+      here : G i
+      here = (
+        q,
+        subst (λ (x : Position). R i x q) (read ∙ ap (position_in a) (stepped.rest i (omega arith))) made,
+        at-all i ∙ get_or-set_same (records k n t) i _ [] (omega (arith, length-records k n t)) ∙ ap (put_position a q) (stepped.rest i (omega arith)),
+      )
+
+      before-it : (j : ℕ) → j < i → (j ≡ i → ⊥) → G j
+      before-it j h ne = let (r, s, e) = stepped.below j h in (r, s, other j ne ∙ e)
+
+-- the table, where the step is a function
+pub all-moved : (n a k : ℕ) (F : ℕ → Position → Position) (t₀ t : List ℕ)
+    → ((j : ℕ) → j < k → (p : Position) × (p ≡ F j (position_in a (get_or (records k n t₀) j []))) × (get_or (records k n t) j [] ≡ put_position a p (get_or (records k n t₀) j [])))
+    → records k n t ≡ map_with_index (moved a F) (records k n t₀)
+unfolding moved
+all-moved n a k F t₀ t h =
+    is_mapped _ (records k n t₀) (records k n t) [] [] (length-records k n t ∙ sym (length-records k n t₀))
+    (λ i lt. let (p, e, w) = h i (omega (arith, length-records k n t₀)) in w ∙ ap (λ (q : Position). put_position a q (get_or (records k n t₀) i [])) e)

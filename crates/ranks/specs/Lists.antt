@@ -1,5 +1,5 @@
 -- Functions on lists. A table is a list of records; a test of a table is the list of what the test says of each record, in order.
-use Rattle.std.specs.Prelude.{ℕ, zero, suc, ◌+◌, ◌*◌, ◌/◌, ◌%◌, min, Bool, true, false, ◌&&◌, List, [], ◌∷◌, eqb, leb, if◌then◌else◌}
+use Rattle.std.specs.Prelude.{ℕ, zero, suc, ◌+◌, ◌*◌, ◌/◌, ◌%◌, min, Bool, true, false, ◌&&◌, List, [], ◌∷◌, eqb, leb, ltb, if◌then◌else◌, Option, Some, None}
 
 -- `b` is not looked at where `a` is false
 infixr 20 ◌implies◌
@@ -41,6 +41,10 @@ every test xs = all_true (map_with_index test xs)
 -- the number of the first record that passes, or how many records there are
 abbrev pub find_index : {A : Type 0} → (ℕ → A → Bool) → List A → ℕ
 find_index test xs = first_true (map_with_index test xs)
+
+-- the index that a search found, none where it is the count
+unfoldable pub found_below : (count i : ℕ) → Option ℕ
+found_below count i = if ltb i count then Some i else None
 
 -- the number whose bit t is set where test t is passed
 unfoldable pub mask : List Bool → ℕ

@@ -38,10 +38,6 @@ take_out_of position move i slot rank f xs = map_with_index (λ j x. if eqb j i 
 
 -- ---- For the code, on a table whose records have their position at byte `place`
 
--- record `i` enters the queue at the rank, or leaves it from there
-abbrev pub shifted : (entering : Bool) (i slot rank j : ℕ) → Position → Position
-shifted entering i slot rank = if entering then inserted i slot rank else taken_out i slot rank
-
 -- There is room behind the ranks of the queue for one more, in a byte.
 abbrev pub Room : (place slot : ℕ) → List (List ℕ) → Type 0
 Room place slot rs = (j : ℕ) → in_queue slot (position_in place (get_or rs j [])) ≡ true → (position_in place (get_or rs j [])).rank < 255

@@ -1,20 +1,56 @@
-// The rank steps, for messages and waiters alike: a table of count records of stride bytes, each with its queue at place and its rank after it.
+// The rank steps, for messages and waiters alike.
 #![tactic(auto)]
 
-ghost use Rattle.std.specs.Prelude.{◌≡◌, true, ◌+◌, ◌<◌, length};
-ghost use Rattle.ranks.specs.Lists.{map_with_index};
-ghost use Rattle.ranks.specs.Position.{in_queue, stands_at};
+ghost use Rattle.std.specs.Prelude.{◌≡◌, ℕ, true, ◌<◌, [], length, get_or, set};
+ghost use Rattle.ranks.specs.Lists.{map_with_index, found_below};
+ghost use Rattle.ranks.specs.Position.{Position, in_queue, stands_at};
 ghost use Rattle.ranks.specs.Table.{records, position_in, put_position, moved, Shape};
-ghost use Rattle.ranks.specs.Steps.{inserted, taken_out, shifted, Room, first_at};
+ghost use Rattle.ranks.specs.Steps.{inserted, taken_out, Room, first_at};
 
 // Where a record stands: its queue (slot + 1, 0 none) and its rank there.
-#[derive(Clone, Copy)]
+#[derive(Clone, Copy, Debug, PartialEq, Eq)]
 pub struct Position {
     pub queue: u8,
     pub rank: u8,
 }
 
+// Where the positions of a table stand: count records of stride bytes, each with its queue at place and its rank after it.
+#[derive(Clone, Copy, Debug, PartialEq, Eq)]
+pub struct Positions {
+    pub stride: usize,
+    pub place: usize,
+    pub count: usize,
+}
+
+impl Positions {
+    // The position of record i.
+    #[tactic(auto, using(crate::proofs::Table::position_read))]
+    fn read(self, t: &[u8], i: usize) -> Position
+        requires { Shape self.stride self.place self.count (length t.now) × (i < self.count) }
+        ensures { result ≡ position_in self.place (get_or (records self.count self.stride t.now) i []) }
+    {
+        let at = i * self.stride + self.place;
+        Position {
+            queue: t[at],
+            rank: t[at + 1],
+        }
+    }
+
+    // Record i stands at another position.
+    #[tactic(auto, using(crate::proofs::Table::position_written))]
+    fn write(self, t: &mut [u8], i: usize, p: Position)
+        requires { Shape self.stride self.place self.count (length t.old) × (i < self.count) }
+        ensures { records self.count self.stride t.new
+            ≡ set (records self.count self.stride t.old) i (put_position self.place p (get_or (records self.count self.stride t.old) i [])) }
+    {
+        let at = i * self.stride + self.place;
+        t[at] = p.queue;
+        t[at + 1] = p.rank;
+    }
+}
+
 // The position of record j after record i was taken out from the rank.
+#[tactic(auto, unfolding(crate::specs::Steps::taken_out))]
 fn after_take_out(i: usize, slot: u8, rank: u8, j: usize, p: Position) -> Position
     requires { slot < 255 }
     ensures { result ≡ taken_out i slot rank j p }
@@ -32,6 +68,7 @@ fn after_take_out(i: usize, slot: u8, rank: u8, j: usize, p: Position) -> Positi
 }
 
 // The position of record j after record i was put in at the rank.
+#[tactic(auto, unfolding(crate::specs::Steps::inserted))]
 fn after_insert(i: usize, slot: u8, rank: u8, j: usize, p: Position) -> Position
     requires { (slot < 255) × (in_queue slot p ≡ true → p.rank < 255) }
     ensures { result ≡ inserted i slot rank j p }
@@ -39,7 +76,7 @@ fn after_insert(i: usize, slot: u8, rank: u8, j: usize, p: Position) -> Position
     if j == i {
         return Position {
             queue: slot + 1,
-            rank: rank,
+            rank,
         };
     }
     if (p.queue == slot + 1) & (rank <= p.rank) {
@@ -51,99 +88,39 @@ fn after_insert(i: usize, slot: u8, rank: u8, j: usize, p: Position) -> Position
     p
 }
 
-// The position of record j after record i entered at the rank, or left from it.
-fn after(entering: bool, i: usize, slot: u8, rank: u8, j: usize, p: Position) -> Position
-    requires { (slot < 255) × (entering ≡ true → in_queue slot p ≡ true → p.rank < 255) }
-    ensures { result ≡ shifted entering i slot rank j p }
+// Each record gets the position that the step makes of its number and its position.
+fn shift<F: Fn(usize, Position) -> Position>(t: &mut [u8], positions: Positions, step: F)
+    requires shape { Shape positions.stride positions.place positions.count (length t.old) }
+    requires callable { (j : ℕ) → j < positions.count → F.pre step j (position_in positions.place (get_or (records positions.count positions.stride t.old) j [])) }
+    ensures { (j : ℕ) → j < positions.count
+        → (p : Position) × F.post step j (position_in positions.place (get_or (records positions.count positions.stride t.old) j [])) p
+        × (get_or (records positions.count positions.stride t.new) j []
+        ≡ put_position positions.place p (get_or (records positions.count positions.stride t.old) j [])) }
 {
-    if entering {
-        return after_insert(i, slot, rank, j, p);
-    }
-    after_take_out(i, slot, rank, j, p)
-}
-
-fn read_position(t: &[u8], at: usize) -> Position
-    requires { at + 1 < length t.now }
-    ensures { result ≡ position_in at t.now }
-{
-    Position {
-        queue: t[at],
-        rank: t[at + 1],
-    }
-}
-
-fn write_position(t: &mut [u8], at: usize, p: Position)
-    requires { at + 1 < length t.old }
-    ensures { t.new ≡ put_position at p t.old }
-{
-    t[at] = p.queue;
-    t[at + 1] = p.rank;
-}
-
-// The position of record j, at this place, as record i enters or leaves. Only record i and those of the queue are written.
-fn shift_at(t: &mut [u8], at: usize, entering: bool, i: usize, slot: u8, rank: u8, j: usize)
-    requires { (at + 1 < length t.old) × ((slot < 255) × (entering ≡ true → in_queue slot (position_in at t.old) ≡ true → (position_in at t.old).rank < 255)) }
-    ensures { t.new ≡ put_position at (shifted entering i slot rank j (position_in at t.old)) t.old }
-{
-    let p = read_position(t, at);
-    if (j != i) & (p.queue != slot + 1) {
-        return;
-    }
-    write_position(t, at, after(entering, i, slot, rank, j, p));
-}
-
-// Record i enters the queue at this rank, or leaves it from there; the positions of the others follow.
-fn shift(
-    t: &mut [u8],
-    stride: usize,
-    place: usize,
-    count: usize,
-    entering: bool,
-    i: usize,
-    slot: u8,
-    rank: u8,
-)
-    requires { Shape stride place count (length t.old) × ((slot < 255) × (entering ≡ true → Room place slot (records count stride t.old))) }
-    ensures { records count stride t.new ≡ map_with_index (moved place (shifted entering i slot rank)) (records count stride t.old) }
-{
-    let mut j = 0;
-    while j < count {
-        let at = j * stride + place;
-        shift_at(t, at, entering, i, slot, rank, j);
-        j += 1;
+    for j in 0..positions.count {
+        let p = positions.read(t, j);
+        positions.write(t, j, step(j, p));
     }
 }
 
 // Record i is taken out from this rank of the queue: those behind it move up by one.
-pub fn take_out(
-    t: &mut [u8],
-    stride: usize,
-    place: usize,
-    count: usize,
-    i: usize,
-    slot: u8,
-    rank: u8,
-)
-    requires { Shape stride place count (length t.old) × (slot < 255) }
-    ensures { records count stride t.new ≡ map_with_index (moved place (taken_out i slot rank)) (records count stride t.old) }
+pub fn take_out(t: &mut [u8], positions: Positions, i: usize, slot: u8, rank: u8)
+    requires { Shape positions.stride positions.place positions.count (length t.old) × (slot < 255) }
+    ensures { records positions.count positions.stride t.new
+        ≡ map_with_index (moved positions.place (taken_out i slot rank)) (records positions.count positions.stride t.old) }
 {
-    shift(t, stride, place, count, false, i, slot, rank);
+    shift(t, positions, |j, p| after_take_out(i, slot, rank, j, p));
 }
 
 // Record i is put in at this rank of the queue: those at it or behind it move back by one. Answers the rank.
-pub fn insert(
-    t: &mut [u8],
-    stride: usize,
-    place: usize,
-    count: usize,
-    i: usize,
-    slot: u8,
-    rank: u8,
-) -> u8
-    requires { Shape stride place count (length t.old) × ((slot < 255) × Room place slot (records count stride t.old)) }
-    ensures { (records count stride t.new ≡ map_with_index (moved place (inserted i slot rank)) (records count stride t.old)) × (result ≡ rank) }
+pub fn insert(t: &mut [u8], positions: Positions, i: usize, slot: u8, rank: u8) -> u8
+    requires { Shape positions.stride positions.place positions.count (length t.old)
+        × ((slot < 255) × Room positions.place slot (records positions.count positions.stride t.old)) }
+    ensures { (records positions.count positions.stride t.new
+        ≡ map_with_index (moved positions.place (inserted i slot rank)) (records positions.count positions.stride t.old))
+        × (result ≡ rank) }
 {
-    shift(t, stride, place, count, true, i, slot, rank);
+    shift(t, positions, |j, p| after_insert(i, slot, rank, j, p));
     rank
 }
 
@@ -154,17 +131,10 @@ fn is_first(p: Position, slot: u8) -> bool
     (p.queue == slot + 1) & (p.rank == 0)
 }
 
-// The record at rank 0 of the queue, or count.
-pub fn first(t: &[u8], stride: usize, place: usize, count: usize, slot: u8) -> usize
-    requires { Shape stride place count (length t.now) × (slot < 255) }
-    ensures { result ≡ first_at place slot (records count stride t.now) }
+// The record at rank 0 of the queue, if there is one.
+pub fn first(t: &[u8], positions: Positions, slot: u8) -> Option<usize>
+    requires { Shape positions.stride positions.place positions.count (length t.now) × (slot < 255) }
+    ensures { result ≡ found_below positions.count (first_at positions.place slot (records positions.count positions.stride t.now)) }
 {
-    let mut i = 0;
-    while i < count {
-        if is_first(read_position(t, i * stride + place), slot) {
-            return i;
-        }
-        i += 1;
-    }
-    i
+    (0..positions.count).find(|i| is_first(positions.read(t, *i), slot))
 }

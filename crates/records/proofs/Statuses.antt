@@ -1,11 +1,10 @@
 -- Statuses that refuse a call. Assumes nothing.
-use Prim.Native.Nat.{ℕ}
 use native.Mathlib.Omega.{arith}
-use mathlib.Core.Path.{◌≡◌, refl, sym, ap, ◌∙◌}
+use mathlib.Core.Path.{◌≡◌, refl}
 use mathlib.Core.Bool.{true}
 use lib.Dec.{leb}
 use borrow.Author.Tests.{leb-true}
-use Rattle.records.specs.Status.{status_number, verdict_status}
+use Rattle.records.specs.Status.{status_number}
 use Rattle.records.specs.declared.status.RefusalStatus.{RefusalStatus}
 use Rattle.records.specs.declared.status.RefusalStatus.TheVariants.{
   InvalidName,
@@ -22,7 +21,6 @@ use Rattle.records.specs.declared.status.RefusalStatus.TheVariants.{
   InvalidOption,
   BadShape,
 }
-use Rattle.records.specs.declared.status.Verdict.{Verdict}
 
 positive : (s : RefusalStatus) → leb 1 (status_number s) ≡ true
 positive InvalidName = refl
@@ -42,7 +40,3 @@ positive BadShape = refl
 -- a status that refuses a call is not 0
 pub not-zero : (s : RefusalStatus) → status_number s ≡ 0 → ⊥
 not-zero s e = omega (arith, e, leb-true 1 (status_number s) (positive s))
-
--- what a verdict says of a list of tests, where it is known which verdict it is
-pub tells : {v w : Verdict} {n : ℕ} → v ≡ w → verdict_status v ≡ n → verdict_status w ≡ n
-tells e says = ap verdict_status (sym e) ∙ says

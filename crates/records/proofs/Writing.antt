@@ -184,15 +184,21 @@ slice_back t r a e h l =
     sym (append_assoc (take a t) r (drop (e - a) (drop a t)))
     ∙ ap (λ (x : List ℕ). take a t ++ r ++ x) (drop-drop (e - a) a t ∙ ap (λ (n : ℕ). drop n t) (let q : a + (e - a) ≡ a + length r = omega arith in q))
 
--- a task's record lent to code that does `f` to it
-pub tasks-lent : (t r : List ℕ) (i : ℕ) (f : Task → Task) → length t ≡ tasks_size → i < task_count → length r ≡ length (take (i * task_width + task_width - i * task_width) (drop (i * task_width) t))
-    → decode_task r ≡ f (decode_task (take (i * task_width + task_width - i * task_width) (drop (i * task_width) t)))
-    → decode_tasks (take (i * task_width) t ++ (r ++ drop (i * task_width + task_width - i * task_width) (drop (i * task_width) t))) ≡ map_with_index (at_index i f) (decode_tasks t)
-tasks-lent t r i f l h e same =
-    let at = slice-lent t (i * task_width) task_width in
-    let n : length r ≡ task_width = e ∙ ap length at ∙ length-slice (i * task_width) task_width t (omega arith) in
-    ap decode_tasks (slice_back t r (i * task_width) (i * task_width + task_width) (omega arith) (omega arith))
-    ∙ table-put decode_task task_count task_width t i h (fresh_task 1) r f n (omega arith) (same ∙ ap (λ (x : List ℕ). f (decode_task x)) at)
+-- record i lent to code that does `f` to it
+pub record-lent : {A : Type 0} (read : List ℕ → A) (k n : ℕ) (d : A) (t r : List ℕ) (i : ℕ) (f : A → A) → length t ≡ k * n → i < k → length r ≡ length (take (i * n + n - i * n) (drop (i * n) t))
+    → read r ≡ f (read (take (i * n + n - i * n) (drop (i * n) t)))
+    → map read (records k n (take (i * n) t ++ (r ++ drop (i * n + n - i * n) (drop (i * n) t)))) ≡ map_with_index (at_index i f) (map read (records k n t))
+record-lent read k n d t r i f l h e same =
+    let inside : i * n + n ≤ length t = omega (arith, before n i k h) in
+    let at = slice-lent t (i * n) n in
+    let long : length r ≡ n = e ∙ ap length at ∙ length-slice (i * n) n t inside in
+    ap (λ (u : List ℕ). map read (records k n u)) (slice_back t r (i * n) (i * n + n) (omega arith) (omega arith))
+    ∙ table-put read k n t i h d r f long inside (same ∙ ap (λ (x : List ℕ). f (read x)) at)
+
+-- record i lent and filled with one number
+pub record-filled : (k n : ℕ) (t r : List ℕ) (i v : ℕ) → length t ≡ k * n → i < k → r ≡ replicate (length (take (i * n + n - i * n) (drop (i * n) t))) v → r ≡ replicate n v
+record-filled k n t r i v l h e =
+    e ∙ ap (λ (m : ℕ). replicate m v) (ap length (slice-lent t (i * n) n) ∙ length-slice (i * n) n t (omega (arith, before n i k h)))
 
 -- a buffer that holds a message has as many bytes as a buffer has
 pub message-fits : (p : Position) (m : List ℕ) → length m ≤ capacity → BufferEncodable (message_buffer p m)

@@ -1,5 +1,5 @@
 -- Document 01, "Status numbers".
-use Rattle.std.specs.Prelude.{ℕ}
+use Rattle.std.specs.Prelude.{ℕ, Result, Ok, Err}
 use Rattle.records.specs.declared.status.RefusalStatus.{RefusalStatus}
 use Rattle.records.specs.declared.status.RefusalStatus.TheVariants.{
   InvalidName,
@@ -16,8 +16,6 @@ use Rattle.records.specs.declared.status.RefusalStatus.TheVariants.{
   InvalidOption,
   BadShape,
 }
-use Rattle.records.specs.declared.status.Verdict.{Verdict}
-use Rattle.records.specs.declared.status.Verdict.TheVariants.{Passed, Refused}
 
 abbrev pub SUCCESSFUL : ℕ
 SUCCESSFUL = 0
@@ -86,7 +84,7 @@ status_number NoBuffer = NO-BUFFER
 status_number InvalidOption = INVALID-OPTION
 status_number BadShape = BAD-SHAPE
 
--- the number that a verdict gives: 0 where no test refuses the call
-abbrev pub verdict_status : Verdict → ℕ
-verdict_status Passed = SUCCESSFUL
-verdict_status (Refused s) = status_number s
+-- the number that a list of tests gives: 0 where no test refuses the call
+abbrev pub verdict_status : Result Unit RefusalStatus → ℕ
+verdict_status (Ok _) = SUCCESSFUL
+verdict_status (Err status) = status_number status

@@ -25,8 +25,11 @@ pub fn write_message(pool: &mut [u8], b: usize, queue: u8, rank: u8, message: &[
     requires { (length pool.old ≡ pool_size) × ((b < buffer_count) × (length message.now ≤ capacity)) }
     ensures { decode_pool pool.new ≡ change_at b (λ _. message_buffer (record { queue = queue; rank = rank }) message.now) (decode_pool pool.old) }
 {
-    let r = encode_message(queue, rank, message);
-    copy_into(pool, b * BUFFER_WIDTH, &r);
+    copy_into(
+        pool,
+        b * BUFFER_WIDTH,
+        &encode_message(queue, rank, message),
+    );
 }
 
 // Buffer b becomes free.
@@ -34,6 +37,6 @@ pub fn clear_buffer(pool: &mut [u8], b: usize)
     requires { (length pool.old ≡ pool_size) × (b < buffer_count) }
     ensures { decode_pool pool.new ≡ change_at b (λ _. free_buffer) (decode_pool pool.old) }
 {
-    let zeros = [0u8; BUFFER_WIDTH];
-    copy_into(pool, b * BUFFER_WIDTH, &zeros);
+    let from = b * BUFFER_WIDTH;
+    pool[from..from + BUFFER_WIDTH].fill(0);
 }

@@ -1,5 +1,7 @@
 // Document 01, "Tables": how many records each table has, how many bytes a record has, where its fields stand, and where a table stands in
 // an image.
+use ranks::Positions;
+
 pub const CAPACITY: usize = 120;
 
 pub const LARGEST_LIMIT: usize = 16;
@@ -57,3 +59,17 @@ pub const TASK_POSITION: usize = 1;
 pub const TASK_LENGTH: usize = 5;
 
 pub const TASK_DATA: usize = 16;
+
+// Where the messages stand in their queues.
+pub const MESSAGE_POSITIONS: Positions = Positions {
+    stride: BUFFER_WIDTH,
+    place: BUFFER_POSITION,
+    count: BUFFER_COUNT,
+};
+
+// Where the waiting tasks stand in their queues.
+pub const WAITER_POSITIONS: Positions = Positions {
+    stride: TASK_WIDTH,
+    place: TASK_POSITION,
+    count: TASK_COUNT,
+};

@@ -1,6 +1,5 @@
 // Queue records: read into a value, changed there and written back.
 ghost use Rattle.std.specs.Prelude.{◌≡◌, ◌<◌, length};
-ghost use Rattle.ranks.specs.Lists.{within};
 ghost use Rattle.records.specs.Layout.{slot_count, queue_width, queues_size};
 ghost use Rattle.records.specs.Records.{is_live, has_priority, is_open, attributes_allowed, limit_allowed, max_size_allowed, size_allowed, is_full};
 ghost use Rattle.records.specs.Bytes.{decode_queue, encode_queue, decode_queues, decode_queue_at};
@@ -8,10 +7,10 @@ ghost use Rattle.records.specs.Changes.{change_at, with_pending, with_waiters, w
 
 use crate::layout::{CAPACITY, LARGEST_LIMIT, QUEUE_WIDTH};
 use octets::copy::copy_into;
-use octets::numbers::{bytes_of_u16, bytes_of_u32, four_bytes, read_u16, read_u32};
+use octets::numbers::{bytes_at, bytes_of_u16, bytes_of_u32, read_u16, read_u32};
 
 // A queue record, field by field.
-#[derive(Clone, Copy)]
+#[derive(Clone, Copy, Debug, Default, PartialEq, Eq)]
 pub struct QueueRecord {
     pub live: u8,
     pub attributes: u8,
@@ -44,10 +43,11 @@ impl QueueRecord {
     }
 
     // A message of the queue may have this size: 0 to the max size.
+    #[tactic(auto, unfolding(crate::specs::Records::size_allowed))]
     pub fn size_allowed(self, size: usize) -> bool
         ensures { result ≡ size_allowed self size }
     {
-        size <= self.max_size as usize
+        size <= usize::from(self.max_size)
     }
 
     pub fn is_full(self) -> bool
@@ -56,62 +56,50 @@ impl QueueRecord {
         self.limit <= self.pending
     }
 
-    pub fn with_pending(mut self, n: u8) -> Self
+    pub fn with_pending(self, n: u8) -> Self
         ensures { result ≡ with_pending n self }
     {
-        self.pending = n;
-        self
+        Self { pending: n, ..self }
     }
 
-    pub fn with_waiters(mut self, n: u8) -> Self
+    pub fn with_waiters(self, n: u8) -> Self
         ensures { result ≡ with_waiters n self }
     {
-        self.waiters = n;
-        self
+        Self { waiters: n, ..self }
     }
 
-    pub fn with_generation(mut self, n: u16) -> Self
+    pub fn with_generation(self, n: u16) -> Self
         ensures { result ≡ with_generation n self }
     {
-        self.generation = n;
-        self
+        Self {
+            generation: n,
+            ..self
+        }
     }
 
     // A live queue with no message and no waiter, and the record's generation.
-    pub fn live_with(mut self, name: u32, limit: u8, max_size: u8, attributes: u8) -> Self
+    pub fn live_with(self, name: u32, limit: u8, max_size: u8, attributes: u8) -> Self
         ensures { result ≡ live_with name limit max_size attributes self }
     {
-        self.live = 1;
-        self.attributes = attributes;
-        self.limit = limit;
-        self.max_size = max_size;
-        self.pending = 0;
-        self.waiters = 0;
-        self.name = name;
-        self.reserved = [0, 0, 0, 0];
-        self
+        Self {
+            live: 1,
+            attributes,
+            limit,
+            max_size,
+            name,
+            ..self.freed()
+        }
     }
 
     // "the record is zeroed but for its generation"
-    pub fn freed(mut self) -> Self
+    pub fn freed(self) -> Self
         ensures { result ≡ freed self }
     {
-        self.live = 0;
-        self.attributes = 0;
-        self.limit = 0;
-        self.max_size = 0;
-        self.pending = 0;
-        self.waiters = 0;
-        self.name = 0;
-        self.reserved = [0, 0, 0, 0];
-        self
+        Self {
+            generation: self.generation,
+            ..Self::default()
+        }
     }
-}
-
-fn is_within(low: usize, high: usize, n: usize) -> bool
-    ensures { result ≡ within low high n }
-{
-    (low <= n) & (n <= high)
 }
 
 // "attributes 0 to 3, limit 1 to 16, max size 1 to 120"
@@ -121,18 +109,21 @@ pub fn attributes_allowed(n: u32) -> bool
     n <= 3
 }
 
+#[tactic(auto, unfolding(ranks::specs::Lists::within))]
 pub fn limit_allowed(n: u32) -> bool
     ensures { result ≡ limit_allowed n }
 {
-    is_within(1, LARGEST_LIMIT, n as usize)
+    (1..=LARGEST_LIMIT).contains(&(n as usize))
 }
 
+#[tactic(auto, unfolding(ranks::specs::Lists::within))]
 pub fn max_size_allowed(n: u32) -> bool
     ensures { result ≡ max_size_allowed n }
 {
-    is_within(1, CAPACITY, n as usize)
+    (1..=CAPACITY).contains(&(n as usize))
 }
 
+#[tactic(auto, unfolding(crate::specs::Bytes::decode_queue))]
 fn decode_queue(r: &[u8]) -> QueueRecord
     requires { length r.now ≡ queue_width }
     ensures { result ≡ decode_queue r.now }
@@ -146,10 +137,11 @@ fn decode_queue(r: &[u8]) -> QueueRecord
         pending: r[6],
         waiters: r[7],
         name: read_u32(r, 8),
-        reserved: four_bytes(r, 12),
+        reserved: bytes_at(r, 12),
     }
 }
 
+#[tactic(auto, unfolding(ranks::specs::Table::slice))]
 pub fn read_queue(queues: &[u8], slot: usize) -> QueueRecord
     requires { (slot < slot_count) × (length queues.now ≡ queues_size) }
     ensures { result ≡ decode_queue_at slot queues.now }
@@ -161,26 +153,26 @@ pub fn read_queue(queues: &[u8], slot: usize) -> QueueRecord
 fn encode_queue(q: QueueRecord) -> [u8; QUEUE_WIDTH]
     ensures { (result ≡ encode_queue q) × ((decode_queue (encode_queue q) ≡ q) × (length (encode_queue q) ≡ queue_width)) }
 {
-    let g = bytes_of_u16(q.generation);
-    let n = bytes_of_u32(q.name);
-    let s = q.reserved;
+    let [g0, g1] = bytes_of_u16(q.generation);
+    let [n0, n1, n2, n3] = bytes_of_u32(q.name);
+    let [r0, r1, r2, r3] = q.reserved;
     [
         q.live,
         q.attributes,
         q.limit,
         q.max_size,
-        g[0],
-        g[1],
+        g0,
+        g1,
         q.pending,
         q.waiters,
-        n[0],
-        n[1],
-        n[2],
-        n[3],
-        s[0],
-        s[1],
-        s[2],
-        s[3],
+        n0,
+        n1,
+        n2,
+        n3,
+        r0,
+        r1,
+        r2,
+        r3,
     ]
 }
 
@@ -188,6 +180,5 @@ pub fn write_queue(queues: &mut [u8], slot: usize, q: QueueRecord)
     requires { (slot < slot_count) × (length queues.old ≡ queues_size) }
     ensures { decode_queues queues.new ≡ change_at slot (λ _. q) (decode_queues queues.old) }
 {
-    let b = encode_queue(q);
-    copy_into(queues, slot * QUEUE_WIDTH, &b);
+    copy_into(queues, slot * QUEUE_WIDTH, &encode_queue(q));
 }

@@ -37,7 +37,7 @@ pub const INVALID_OPTION: u8 = 15;
 pub const BAD_SHAPE: u8 = 16;
 
 // A status that refuses a call: "All but 0 and 14 are refusals", and 7 and 8 are "only written to a task".
-#[derive(Clone, Copy)]
+#[derive(Clone, Copy, Debug, PartialEq, Eq)]
 pub enum RefusalStatus {
     InvalidName,
     InvalidId,
@@ -54,11 +54,12 @@ pub enum RefusalStatus {
     BadShape,
 }
 
-impl RefusalStatus {
-    pub fn number(self) -> u8
-        ensures { result ≡ status_number self }
-    {
-        match self {
+// The status's number.
+impl From<RefusalStatus> for u8 {
+    ghost from_gives = { λ status number. number ≡ status_number status };
+
+    fn from(status: RefusalStatus) -> u8 {
+        match status {
             RefusalStatus::InvalidName => INVALID_NAME,
             RefusalStatus::InvalidId => INVALID_ID,
             RefusalStatus::InvalidSize => INVALID_SIZE,
@@ -74,11 +75,4 @@ impl RefusalStatus {
             RefusalStatus::BadShape => BAD_SHAPE,
         }
     }
-}
-
-// What a list of tests says of a call.
-#[derive(Clone, Copy)]
-pub enum Verdict {
-    Passed,
-    Refused(RefusalStatus),
 }

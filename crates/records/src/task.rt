@@ -9,14 +9,14 @@ ghost use Rattle.records.specs.TaskHeads.{head_of, with_head, ready_head, messag
 use crate::layout::{TASK_DATA, TASK_LENGTH, TASK_POSITION, TASK_WIDTH};
 use crate::status::{SUCCESSFUL, WAITING};
 use octets::copy::copy_into;
-use octets::numbers::{bytes_of_u32, read_u32, two_bytes};
+use octets::numbers::{bytes_at, bytes_of_u32, read_u32};
 
 pub const READY_STATE: u8 = 0;
 
 pub const WAITING_STATE: u8 = 1;
 
 // What stands before a task's receive buffer, but for its zero bytes 12 to 15.
-#[derive(Clone, Copy)]
+#[derive(Clone, Copy, Debug, PartialEq, Eq)]
 pub struct TaskHead {
     pub state: u8,
     pub queue: u8,
@@ -36,51 +36,55 @@ impl TaskHead {
     }
 
     // The task is ready and in no queue. "Leaving a queue zeroes queue, rank and ticks."
-    pub fn ready_with(mut self, status: u8) -> Self
+    pub fn ready_with(self, status: u8) -> Self
         ensures { result ≡ ready_head status self }
     {
-        self.state = READY_STATE;
-        self.queue = 0;
-        self.rank = 0;
-        self.status = status;
-        self.ticks_left = 0;
-        self
+        Self {
+            state: READY_STATE,
+            queue: 0,
+            rank: 0,
+            status,
+            ticks_left: 0,
+            ..self
+        }
     }
 
     // The task waits at this rank of this queue: "status 14, length 0, ticks left as given".
-    pub fn waiting_at(mut self, queue: u8, rank: u8, ticks: u32) -> Self
+    pub fn waiting_at(self, queue: u8, rank: u8, ticks: u32) -> Self
         ensures { result ≡ waiting_head queue rank ticks self }
     {
-        self.state = WAITING_STATE;
-        self.queue = queue;
-        self.rank = rank;
-        self.status = WAITING;
-        self.message_length = 0;
-        self.ticks_left = ticks;
-        self
+        Self {
+            state: WAITING_STATE,
+            queue,
+            rank,
+            status: WAITING,
+            message_length: 0,
+            ticks_left: ticks,
+            ..self
+        }
     }
 
     // The task is ready and has a message of this length: "status 0, length set".
-    pub fn ready_with_message(mut self, n: u8) -> Self
+    pub fn ready_with_message(self, n: u8) -> Self
         ensures { result ≡ message_head n self }
     {
-        self.state = READY_STATE;
-        self.queue = 0;
-        self.rank = 0;
-        self.status = SUCCESSFUL;
-        self.message_length = n;
-        self.ticks_left = 0;
-        self
+        Self {
+            message_length: n,
+            ..self.ready_with(SUCCESSFUL)
+        }
     }
 
-    pub fn with_ticks(mut self, n: u32) -> Self
+    pub fn with_ticks(self, n: u32) -> Self
         ensures { result ≡ ticked_head n self }
     {
-        self.ticks_left = n;
-        self
+        Self {
+            ticks_left: n,
+            ..self
+        }
     }
 }
 
+#[tactic(auto, unfolding(crate::specs::Bytes::decode_task))]
 fn decode_head(r: &[u8]) -> TaskHead
     requires { length r.now ≡ task_width }
     ensures { result ≡ head_of (decode_task r.now) }
@@ -92,11 +96,12 @@ fn decode_head(r: &[u8]) -> TaskHead
         priority: r[3],
         status: r[4],
         message_length: r[TASK_LENGTH],
-        reserved: two_bytes(r, 6),
+        reserved: bytes_at(r, 6),
         ticks_left: read_u32(r, 8),
     }
 }
 
+#[tactic(auto, unfolding(ranks::specs::Table::slice))]
 pub fn read_head(tasks: &[u8], t: usize) -> TaskHead
     requires { (t < task_count) × (length tasks.now ≡ tasks_size) }
     ensures { result ≡ head_of (decode_task_at t tasks.now) }
@@ -109,8 +114,8 @@ fn encode_head(r: &mut [u8], h: TaskHead)
     requires { length r.old ≡ task_width }
     ensures { decode_task r.new ≡ with_head h (decode_task r.old) }
 {
-    let n = bytes_of_u32(h.ticks_left);
-    let z = h.reserved;
+    let [z0, z1] = h.reserved;
+    let [n0, n1, n2, n3] = bytes_of_u32(h.ticks_left);
     let b = [
         h.state,
         h.queue,
@@ -118,12 +123,12 @@ fn encode_head(r: &mut [u8], h: TaskHead)
         h.priority,
         h.status,
         h.message_length,
-        z[0],
-        z[1],
-        n[0],
-        n[1],
-        n[2],
-        n[3],
+        z0,
+        z1,
+        n0,
+        n1,
+        n2,
+        n3,
     ];
     copy_into(r, 0, &b);
 }
@@ -160,7 +165,8 @@ pub fn write_fresh_task(tasks: &mut [u8], t: usize, priority: u8)
     requires { (length tasks.old ≡ tasks_size) × (t < task_count) }
     ensures { decode_tasks tasks.new ≡ change_at t (λ _. fresh_task priority) (decode_tasks tasks.old) }
 {
-    let mut r = [0u8; TASK_WIDTH];
+    let from = t * TASK_WIDTH;
+    let r = &mut tasks[from..from + TASK_WIDTH];
+    r.fill(0);
     r[3] = priority;
-    copy_into(tasks, t * TASK_WIDTH, &r);
 }

@@ -3,14 +3,11 @@
 
 use fresh_tables::start::fresh;
 use logio::input::{replay_input, tell};
-use streams::system::System;
+use streams::writing::standard_output;
 
 fn main(rt: HostRuntime) {
-    let system = System::new(rt);
-    let t = fresh();
-    let mut queues = t.queues;
-    let mut pool = t.pool;
-    let mut tasks = t.tasks;
-    let e = replay_input(&system, &mut queues, &mut pool, &mut tasks, true);
-    tell(&system, e);
+    let mut t = fresh();
+    let to = Some(standard_output(&rt));
+    let ending = replay_input(&rt, &mut t.queues, &mut t.pool, &mut t.tasks, to);
+    tell(&rt, ending);
 }

@@ -1,52 +1,60 @@
--- Bytes copied whole, changes written one by one, and the answers of a log in a lent buffer. Assumes nothing.
-use Rattle.std.proofs.Common.{◌≡◌, ℕ, suc, ◌+◌, ◌-◌, ◌*◌, ◌<◌, ◌≤◌, ◌&&◌, List, [], ◌∷◌, ◌++◌, length, take, drop, set, replicate, refl, ap, ◌∙◌, append-nil, arith, length-drop, drop_of_length-le, length-take-le, drop-cons}
-use lib.ListN.{length-replicate}
-use Rattle.octets.specs.LittleEndian.{byte_values}
-use Rattle.ranks.specs.Table.{byte, spliced}
+-- Byte strings compared, changes written one by one, and the answers of a log in a lent buffer. Assumes nothing.
+use Rattle.std.proofs.Common.{◌≡◌, ℕ, suc, ◌+◌, ◌-◌, ◌*◌, ◌<◌, ◌≤◌, ◌&&◌, Bool, true, false, List, [], ◌∷◌, length, take, drop, set, get_or, take_all, refl, sym, ap, ◌∙◌, arith, length-drop, length-take-le}
+use Rattle.std.specs.Cmp.Lexicographic.{pointwise}
+use lib.Dec.{eqb, eqb-zero-suc, eqb-suc-suc}
+use lib.Seq.{set_out}
+use Rattle.std.specs.Prelude.{if◌then◌else◌}
 use Rattle.records.specs.Bytes.{Tables}
 use Rattle.calllog.specs.CallLog.{answer_width, record_count}
 use Rattle.runs.specs.Replay.{Replayed, replayed}
+use Rattle.logio.specs.Agreeing.{agreement}
 use Rattle.logio.proofs.Room.{records-room}
 use Rattle.replay_cases.specs.StoredCase.{changed, same, tables_in, same_tables, replays_to, rest_records, rest_room, answers_room}
 
--- bytes copied over all of a buffer
-pub copied : (n : ℕ) (l : List ℕ) → length l ≡ n → spliced (replicate n 0) 0 l ≡ l
-unfolding spliced
-copied n l e =
-    ap (λ (r : List ℕ). l ++ r) (drop_of_length-le (replicate n 0) {i = 0 + length l} (omega (arith, length-replicate {A = ℕ} n 0))) ∙ append-nil l
-
--- a part of an image
-pub part_length : (i n : ℕ) (l : List ℕ) → i + n ≤ length l → length (take n (drop i l)) ≡ n
-part_length i n l h = length-take-le n (drop i l) (omega (arith, length-drop i l))
-
--- one change more is written
-pub one_more : (image changes : List ℕ) (i : ℕ) → i + 2 < length changes
-    → changed image (drop i changes)
-    ≡ changed (set image (byte i changes + byte_values * byte (i + 1) changes) (byte (i + 2) changes)) (drop (i + 3) changes)
-unfolding changed
-one_more image changes i h =
-    ap (changed image)
-    (drop-cons changes i 0 (omega arith)
-    ∙ ap (λ (l : List ℕ). byte i changes ∷ l)
-    (ap (λ (k : ℕ). drop k changes) first ∙ drop-cons changes (i + 1) 0 (omega arith)
-    ∙ ap (λ (l : List ℕ). byte (i + 1) changes ∷ l) (ap (λ (k : ℕ). drop k changes) second ∙ drop-cons changes (i + 2) 0 h ∙ ap (λ (k : ℕ). byte (i + 2) changes ∷ drop k changes) third)))
+-- byte for byte, as `==` compares
+pub same_bytes : (a b : List ℕ) → pointwise eqb a b ≡ same a b
+unfolding same agreement
+same_bytes [] [] = refl
+same_bytes [] (y ∷ ys) = sym (eqb-zero-suc (length ys))
+same_bytes (x ∷ xs) [] = rw (eqb-zero-suc (length xs)) refl
+same_bytes (x ∷ xs) (y ∷ ys) = cases (eqb x y) (same_bytes xs ys)
   where
-    first : suc i ≡ i + 1
-    first = omega arith
+    cases : (b : Bool) → pointwise eqb xs ys ≡ same xs ys
+        → (b && pointwise eqb xs ys) ≡ (eqb (if b then suc (agreement xs ys) else 0) (suc (length xs)) && eqb (if b then suc (agreement xs ys) else 0) (suc (length ys)))
+    cases true e = rw (eqb-suc-suc (agreement xs ys) (length xs), eqb-suc-suc (agreement xs ys) (length ys)) e
+    cases false e = rw (eqb-zero-suc (length xs)) refl
 
-    second : suc (i + 1) ≡ i + 2
-    second = omega arith
+pub same_in_tables : (t u : Tables) (queues pool tasks : Bool) → queues ≡ pointwise eqb t.queues u.queues → pool ≡ pointwise eqb t.pool u.pool → tasks ≡ pointwise eqb t.tasks u.tasks
+    → (queues && pool && tasks) ≡ same_tables t u
+unfolding same_tables
+same_in_tables t u queues pool tasks q p k =
+    rw (q, p, k, same_bytes t.queues u.queues, same_bytes t.pool u.pool, same_bytes t.tasks u.tasks) refl
 
-    third : suc (i + 2) ≡ i + 3
-    third = omega arith
+-- one change is written, and the others are left
+pub one_more : (image l : List ℕ) (place k : ℕ) → place ≡ get_or l 0 0 + 256 * get_or l 1 0 → 3 ≤ length l → length l ≤ k
+    → changed (set image place (get_or l 2 0)) (take (k - 3) (drop 3 l)) ≡ changed image l
+unfolding changed
+one_more image [] place k e h m = absurd (omega arith)
+one_more image (a ∷ []) place k e h m = absurd (omega arith)
+one_more image (a ∷ b ∷ []) place k e h m = absurd (omega arith)
+one_more image (a ∷ b ∷ c ∷ l) place k e h m = rw (take_all (k - 3) l (omega arith), e) refl
+
+-- one at a place that the image does not have
+pub one_out : (image l : List ℕ) (place k : ℕ) → place ≡ get_or l 0 0 + 256 * get_or l 1 0 → 3 ≤ length l → length l ≤ k → length image ≤ place
+    → changed image (take (k - 3) (drop 3 l)) ≡ changed image l
+one_out image l place k e h m out = ap (λ (i : List ℕ). changed i (take (k - 3) (drop 3 l))) (sym (set_out image place (get_or l 2 0) out)) ∙ one_more image l place k e h m
 
 -- less than a change is left
-pub none_left : (image l : List ℕ) → length l ≤ 2 → changed image l ≡ image
+pub none_left : (image l : List ℕ) → length l < 3 → changed image l ≡ image
 unfolding changed
 none_left image [] h = refl
 none_left image (a ∷ []) h = refl
 none_left image (a ∷ b ∷ []) h = refl
 none_left image (a ∷ b ∷ c ∷ l) h = absurd (omega arith)
+
+-- a part of an image
+pub part_length : (i n : ℕ) (l : List ℕ) → i + n ≤ length l → length (take n (drop i l)) ≡ n
+part_length i n l h = length-take-le n (drop i l) (omega (arith, length-drop i l))
 
 -- the answers to a part of what follows a case's head have room
 pub few-records : (i j : ℕ) (l : List ℕ) → i ≤ j → j ≤ length l → length l ≤ rest_room

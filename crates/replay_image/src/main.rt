@@ -2,33 +2,25 @@
 #![tactic(auto)]
 
 use fresh_tables::start::fresh;
-use logio::input::{Ending, replay_input, tell};
-use streams::system::System;
+use logio::input::{ReplayError, replay_input, tell};
+use std::io;
 use streams::writing::{standard_output, write};
 
-// Writes the image. What became of it.
-fn write_image(system: &System, queues: &[u8], pool: &[u8], tasks: &[u8]) -> Ending {
-    let to = standard_output(system);
-    let written = write(system, to, queues) && write(system, to, pool) && write(system, to, tasks);
-    if written {
-        Ending::Complete
-    } else {
-        Ending::NotWritten
-    }
+fn write_image(rt: &HostRuntime, queues: &[u8], pool: &[u8], tasks: &[u8]) -> io::Result<()> {
+    let to = standard_output(rt);
+    write(to, queues)?;
+    write(to, pool)?;
+    write(to, tasks)
+}
+
+// Replays the log, and writes the image if it was replayed to its end.
+fn replay(rt: &HostRuntime) -> Result<(), ReplayError> {
+    let mut t = fresh();
+    replay_input(rt, &mut t.queues, &mut t.pool, &mut t.tasks, None)?;
+    write_image(rt, &t.queues, &t.pool, &t.tasks).map_err(ReplayError::NotWritten)
 }
 
 fn main(rt: HostRuntime) {
-    let system = System::new(rt);
-    let t = fresh();
-    let mut queues = t.queues;
-    let mut pool = t.pool;
-    let mut tasks = t.tasks;
-    let e = replay_input(&system, &mut queues, &mut pool, &mut tasks, false);
-    let e = match e {
-        Ending::Complete => write_image(&system, &queues, &pool, &tasks),
-        Ending::GoesOn => e,
-        Ending::NotRead => e,
-        Ending::NotWritten => e,
-    };
-    tell(&system, e);
+    let ending = replay(&rt);
+    tell(&rt, ending);
 }

@@ -1,73 +1,52 @@
 -- What stands at a place of a log, and what is still to be replayed. Assumes nothing.
-use Prim.Native.Nat.{ℕ, suc, ◌+◌, ◌*◌, ◌-◌, ◌≤◌, ◌<◌, min}
+use Prim.Native.Nat.{ℕ, suc, ◌+◌, ◌*◌, ◌-◌, ◌≤◌, ◌<◌}
 use native.Mathlib.Nat.{zero-add, sub-zero, suc-mul}
 use native.Mathlib.Omega.{arith}
-use mathlib.Core.Path.{◌≡◌, refl, sym, ap, ap₂, ◌∙◌}
+use mathlib.Core.Path.{◌≡◌, refl, sym, ap, ap₂, subst, ◌∙◌}
 use mathlib.Core.Logic.{⊎_elim}
 use mathlib.Core.List.{List, [], ◌∷◌, ◌++◌, append_assoc, append-nil}
-use lib.ListN.{length, take, drop, length-append, length-drop, drop_of_length-le, take-append-drop}
-use lib.Seq.{take_all, take_at, drop_at, drop-drop, length-take-le}
-use borrow.Author.Tests.{lt-ltb}
+use lib.ListN.{length, take, drop, length-append, length-take, length-drop, drop_of_length-le, take-append-drop}
+use lib.Seq.{take_at, drop_at, drop-drop, length-take-le}
+use Rattle.std.specs.Prelude.{Some}
 use Rattle.ranks.specs.Table.{slice, records, spliced}
 use Rattle.ranks.proofs.Table.{length-records}
 use Rattle.ranks.proofs.Tests.{lt-or-ge}
 use Rattle.octets.specs.LittleEndian.{to_little_endian}
 use Rattle.records.specs.Bytes.{Tables}
-use Rattle.calllog.specs.CallLog.{read_record, read_at, place_after, answer_bytes, record_width, answer_width, record_count}
+use Rattle.calllog.specs.CallLog.{Reading, place_after, reading_at, answer_bytes, record_width, answer_width, record_count}
+use Rattle.calllog.proofs.Laws.{place_inside, read_inside}
 use Rattle.calllog.specs.declared.call.LogResult.{LogResult}
-use Rattle.runs.specs.Replay.{Replayed, replay_found, replay_record, replay_records, records_of, replayed, ReplayedAt, replayed_at, replayed_front}
+use Rattle.calllog.specs.declared.reader.LogReader.{LogReader}
+use Rattle.calllog.specs.declared.reader.LogRecord.{LogRecord}
+use Rattle.calllog.specs.Reader.{Reads}
+use Rattle.runs.specs.Replay.{Replayed, replay_found, replay_record, replay_records, records_of, replayed, replayed_front}
 
--- ---- What stands at a place
+-- ---- What the reader finds
+
+-- At a place of a log the reader found this, and moved on to the next place.
+pub record Found (log : List ℕ) (at : ℕ) (bytes : List ℕ) (result : LogResult) (next : ℕ) : Type 0 where
+  pub inside : at < length log
+  pub part : bytes ≡ slice at record_width log
+  pub reading : (record { result = result; next = next }) ≡ reading_at log at
+
+pub found_by : (log : List ℕ) (s t : LogReader) (x : LogRecord) → s.log.now ≡ log → Reads s (Some x) t → Found log s.at x.bytes.now x.result t.at
+found_by log s t x same reads =
+    subst (λ (l : List ℕ). Found l s.at x.bytes.now x.result t.at) same (record { inside = reads.1.0; part = reads.1.1; reading = reads.1.2 })
+
+-- ---- The records from a place on
 
 module _ (log : List ℕ) (at : ℕ) (h : at < length log) where
-  next-is : place_after log at ≡ min (at + record_width) (length log)
-  unfolding place_after
-  next-is = rw (lt-ltb at (length log) h)
-
-  pub next-after : at < place_after log at
-  next-after = omega (arith, next-is)
-
-  pub next-within : place_after log at ≤ length log
-  next-within = omega (arith, next-is)
-
-  -- the bytes up to the next place are the record, or the short last part
-  part-is : take (place_after log at - at) (drop at log) ≡ slice at record_width log
-  unfolding slice
-  part-is =
-      ⊎_elim
-      (λ (g : length log < at + record_width).
-      let rest : List ℕ = drop at log in
-      let all : length rest ≡ place_after log at - at = omega (arith, next-is, length-drop at log) in
-      take_all (place_after log at - at) rest (omega (arith, all)) ∙ sym (take_all record_width rest (omega (arith, length-drop at log))))
-      (λ (g : at + record_width ≤ length log). let whole : place_after log at - at ≡ record_width = omega (arith, next-is) in ap (λ (n : ℕ). take n (drop at log)) whole)
-      (lt-or-ge (length log) (at + record_width))
-
-  pub part-size : (next : ℕ) → next ≡ place_after log at → 0 < length (take (next - at) (drop at log))
-  part-size next e =
-      let l = length-take-le (next - at) (drop at log) (omega (arith, e, next-within, length-drop at log)) in
-      omega (arith, l, e, next-after)
-
-  -- what the reader finds there is what the record says
-  found-is : read_at log at ≡ read_record (slice at record_width log)
-  unfolding read_at
-  found-is = rw (lt-ltb at (length log) h)
-
-  pub record-replayed : (t : Tables) (found : LogResult) (next : ℕ) → found ≡ read_at log at → next ≡ place_after log at
-      → replay_found t found (take (next - at) (drop at log)) ≡ replay_record t (slice at record_width log)
-  unfolding replay_record
-  record-replayed t found next f e = ap₂ {C = Replayed} (replay_found t) (f ∙ found-is) (ap (λ (n : ℕ). take (n - at) (drop at log)) e ∙ part-is)
-
-  -- the records from there on: this one, and those from the next place on
+  -- this one, and those from the next place on
   count-is : record_count (length log - at) ≡ suc (record_count (length log - place_after log at))
   unfolding record_count
-  count-is = omega (arith, next-is)
+  count-is = omega (arith, place_inside log at h)
 
   dropped : drop record_width (drop at log) ≡ drop (place_after log at) log
   dropped =
       drop-drop record_width at log
       ∙ ⊎_elim
-      (λ (g : length log < at + record_width). drop_of_length-le log {i = at + record_width} (omega arith) ∙ sym (drop_of_length-le log {i = place_after log at} (omega (arith, next-is))))
-      (λ (g : at + record_width ≤ length log). let same : at + record_width ≡ place_after log at = omega (arith, next-is) in ap (λ (n : ℕ). drop n log) same)
+      (λ (g : length log < at + record_width). drop_of_length-le log {i = at + record_width} (omega arith) ∙ sym (drop_of_length-le log {i = place_after log at} (omega (arith, place_inside log at h))))
+      (λ (g : at + record_width ≤ length log). let same : at + record_width ≡ place_after log at = omega (arith, place_inside log at h) in ap (λ (n : ℕ). drop n log) same)
       (lt-or-ge (length log) (at + record_width))
 
   records-from : records_of (drop at log) ≡ slice at record_width log ∷ records_of (drop (place_after log at) log)
@@ -77,6 +56,16 @@ module _ (log : List ℕ) (at : ℕ) (h : at < length log) where
       let count : record_count (length (drop at log)) ≡ suc (record_count (length (drop next log))) =
       ap record_count (length-drop at log) ∙ count-is ∙ ap (λ (n : ℕ). suc (record_count n)) (sym (length-drop next log)) in
       ap (λ (k : ℕ). records k record_width (drop at log)) count ∙ ap (λ (l : List ℕ). take record_width (drop at log) ∷ records (record_count (length (drop next log))) record_width l) dropped
+
+module _ (log : List ℕ) (at : ℕ) (bytes : List ℕ) (result : LogResult) (next : ℕ) (found : Found log at bytes result next) where
+  pub some-byte : 0 < length bytes
+  unfolding slice
+  some-byte = let l = ap length found.part ∙ length-take record_width (drop at log) in omega (arith, l, length-drop at log, found.inside)
+
+  -- what was found, replayed
+  pub record-replayed : (t : Tables) → replay_found t result bytes ≡ replay_record t (slice at record_width log)
+  unfolding replay_record
+  record-replayed t = ap₂ {C = Replayed} (replay_found t) (ap (λ (x : Reading). x.result) found.reading ∙ read_inside log at found.inside) found.part
 
 -- ---- What is still to be replayed
 
@@ -113,49 +102,39 @@ module _ (t₀ : Tables) (log lent : List ℕ) where
       record { inside = omega arith; room = rw (sub-zero (length log), zero-add) room; size = refl; behind = refl; front = refl; after = refl }
 
   module _ (t : Tables) (answers : List ℕ) (at to : ℕ) (before : ReplayedTo t₀ log lent t answers at to) where
-    module _ (h : at < length log) where
-      -- this record's answer record has room
-      pub room-for-one : to + answer_width ≤ length answers
-      room-for-one = omega (arith, before.room, before.size, count-is log at h)
+    -- the answer record of a record that is left has room
+    pub room-for-one : at < length log → to + answer_width ≤ length answers
+    room-for-one h = omega (arith, before.room, before.size, count-is log at h)
 
-      abbrev one : Replayed
-      one = replay_record t (slice at record_width log)
-
-      -- the answers in front, with this one
-      both-size : length (take to answers ++ one.answers) ≡ to + answer_width
-      both-size =
-          length-append (take to answers) one.answers
-          ∙ omega (arith, length-take-le to answers (omega (arith, room-for-one)), length-answers t (slice at record_width log))
-
-      later : (l : List ℕ) → drop (to + length one.answers) l ≡ drop answer_width (drop to l)
-      later l = ap (λ (n : ℕ). drop (to + n) l) (length-answers t (slice at record_width log)) ∙ sym (drop-drop answer_width to l)
-
-      pub one-more-replayed : (next : ℕ) (t' : Tables) (answers' : List ℕ) → length answers' ≡ length answers
-          → (record { next = next; answers = answers'; after = t' }) ≡ replayed_at t log at answers to → ReplayedTo t₀ log lent t' answers' next (to + answer_width)
-      unfolding replayed_at replayed replay_records spliced
-      one-more-replayed next t' answers' same e =
-          let n : next ≡ place_after log at = ap (λ (x : ReplayedAt). x.next) e in
-          let written : answers' ≡ (take to answers ++ one.answers) ++ drop (to + length one.answers) answers = ap (λ (x : ReplayedAt). x.answers) e in
-          let left : t' ≡ one.after = ap (λ (x : ReplayedAt). x.after) e in
-          let rest : Replayed = replayed t' (drop next log) in
-          let is : replayed t (drop at log) ≡ (record { answers = one.answers ++ rest.answers; after = rest.after }) =
-          ap (replay_records t) (records-from log at h)
-          ∙ (λ j. let x = replayed (sym left j) (drop (sym n j) log) in record { answers = one.answers ++ x.answers; after = x.after }) in
-          record {
-            inside = omega (arith, n, next-within log at h);
-            room = omega (arith, ap (λ (k : ℕ). record_count (length log - k)) n, before.room, count-is log at h);
-            size = same ∙ before.size;
-            behind =
-                ap (drop (to + answer_width)) written
-                ∙ drop_at (take to answers ++ one.answers) (drop (to + length one.answers) answers) (to + answer_width) both-size
-                ∙ later answers ∙ ap (drop answer_width) before.behind ∙ drop-drop answer_width to lent;
-            front =
-                ap (λ (l : List ℕ). take (to + answer_width) l ++ rest.answers) written
-                ∙ ap (λ (l : List ℕ). l ++ rest.answers) (take_at (take to answers ++ one.answers) (drop (to + length one.answers) answers) (to + answer_width) both-size)
-                ∙ append_assoc (take to answers) one.answers rest.answers
-                ∙ sym (ap (λ (x : Replayed). take to answers ++ x.answers) is) ∙ before.front;
-            after = sym (ap (λ (x : Replayed). x.after) is) ∙ before.after;
-          }
+    pub one-more-replayed : (bytes : List ℕ) (result : LogResult) (next : ℕ) → Found log at bytes result next
+        → (a : List ℕ) (t' : Tables) → (record { answers = a; after = t' }) ≡ replay_found t result bytes → (n : ℕ) → n ≡ answer_width
+        → ReplayedTo t₀ log lent t' (take to answers ++ (a ++ drop n (drop to answers))) next (to + answer_width)
+    unfolding replayed replay_records
+    one-more-replayed bytes result next found a t' d n whole =
+        let h = found.inside in
+        let to-next : next ≡ place_after log at = ap (λ (x : Reading). x.next) found.reading in
+        let one : (record { answers = a; after = t' }) ≡ replay_record t (slice at record_width log) = d ∙ record-replayed log at bytes result next found t in
+        let answered : length a ≡ answer_width = ap (λ (x : Replayed). length x.answers) one ∙ length-answers t (slice at record_width log) in
+        let in_front : length (take to answers) ≡ to = length-take-le to answers (omega (arith, room-for-one h)) in
+        let rest : Replayed = replayed t' (drop next log) in
+        let is : replayed t (drop at log) ≡ (record { answers = a ++ rest.answers; after = rest.after }) =
+        ap (replay_records t) (records-from log at h)
+        ∙ (λ j. let r = sym one j in let x = replayed r.after (drop (sym to-next j) log) in record { answers = r.answers ++ x.answers; after = x.after }) in
+        let behind : drop n (drop to answers) ≡ drop (to + answer_width) lent = ap₂ {C = List ℕ} drop whole before.behind ∙ drop-drop answer_width to lent in
+        let size : length (take to answers ++ a) ≡ to + answer_width = length-append (take to answers) a ∙ omega arith in
+        let apart : take to answers ++ (a ++ drop n (drop to answers)) ≡ (take to answers ++ a) ++ drop n (drop to answers) =
+        sym (append_assoc (take to answers) a (drop n (drop to answers))) in
+        record {
+          inside = omega (arith, place_inside log at h);
+          room = omega (arith, ap (λ (k : ℕ). record_count (length log - k)) to-next, before.room, count-is log at h);
+          size = ap length apart ∙ length-append (take to answers ++ a) (drop n (drop to answers)) ∙ omega (arith, before.size, ap length behind, length-drop (to + answer_width) lent, room-for-one h);
+          behind = ap (drop (to + answer_width)) apart ∙ drop_at (take to answers ++ a) (drop n (drop to answers)) (to + answer_width) size ∙ behind;
+          front =
+              ap (λ (l : List ℕ). take (to + answer_width) l ++ rest.answers) apart
+              ∙ ap (λ (l : List ℕ). l ++ rest.answers) (take_at (take to answers ++ a) (drop n (drop to answers)) (to + answer_width) size)
+              ∙ append_assoc (take to answers) a rest.answers ∙ sym (ap (λ (x : Replayed). take to answers ++ x.answers) is) ∙ before.front;
+          after = sym (ap (λ (x : Replayed). x.after) is) ∙ before.after;
+        }
 
     pub all-replayed : length log ≤ at → (to ≡ length (replayed t₀ log).answers) × ((record { answers = answers; after = t }) ≡ replayed_front t₀ log lent)
     unfolding replayed_front replayed replay_records records_of record_count records spliced

@@ -11,7 +11,7 @@ use lib.ListN.{length, take, drop, length-take, get_or-eq_default}
 use lib.Seq.{get_or-take, get_or-drop}
 use borrow.Author.Tests.{lt-ltb}
 use Rattle.octets.specs.LittleEndian.{byte_values, from_little_endian}
-use Rattle.std.specs.Prelude.{if◌then◌else◌}
+use Rattle.std.specs.Prelude.{if◌then◌else◌, Result, Ok, Err}
 use Rattle.ranks.specs.Lists.{all_true}
 use Rattle.ranks.specs.Table.{slice}
 use Rattle.ranks.proofs.Tests.{lt-or-ge}
@@ -19,8 +19,7 @@ use Rattle.records.specs.Bytes.{Tables}
 use Rattle.records.proofs.Fits.{number_bound}
 use Rattle.records.specs.Status.{status_number, verdict_status, SUCCESSFUL}
 use Rattle.records.specs.declared.status.RefusalStatus.{RefusalStatus}
-use Rattle.records.specs.declared.status.Verdict.{Verdict}
-use Rattle.records.specs.declared.status.Verdict.TheVariants.{Passed, Refused}
+use Rattle.records.proofs.Statuses.{not-zero}
 use Rattle.specification.specs.Answer.{Outcome, first_status}
 use Rattle.specification.specs.Call.{Call, call, tick, arguments_in_range, directive_in_range, operation_in_range}
 use Rattle.specification.specs.Step.{step}
@@ -28,8 +27,8 @@ use Rattle.theorems.specs.SoundTables.{SoundTables}
 use Rattle.theorems.proofs.Demand2.{demand-2}
 use Rattle.common_refusals.specs.Tested.{table_refusals}
 use Rattle.records.proofs.ByteLists.{Slice}
-use Rattle.common_refusals.proofs.FirstTests.{table-refused, table-passed}
-use Rattle.manager.proofs.Calls.{refused-call, tick-refused}
+use Rattle.common_refusals.proofs.FirstTests.{first-of-both, table-passed}
+use Rattle.manager.proofs.Calls.{refused_call, tick-refused}
 use Rattle.calllog.specs.CallLog.{record_width, operation, caller, option, size, id, ticks, limit, max_size, ◌of◌, row_of, keeps_row, call_with, read_record, message_place, message_of}
 use Rattle.calllog.specs.CallLog
 use Rattle.calllog.specs.declared.call.LogResult.{LogResult}
@@ -106,7 +105,7 @@ record-in-range r s =
 module _ (t : Tables) where
   -- a call on tables that fail a test of their own changes nothing
   unchanged : (s : RefusalStatus) → status_number s ≡ first_status (table_refusals t) → (c : Call) → t ≡ (step t c).after
-  unchanged s e (call caller directive) = ap (λ (o : Outcome Tables). o.after) (refused-call t caller directive s (table-refused t s e caller))
+  unchanged s e (call caller directive) = ap (λ (o : Outcome Tables). o.after) (refused_call t caller directive s (e ∙ first-of-both (table_refusals t) _ (λ z. not-zero s (e ∙ z))))
   unchanged s e tick = ap (λ (o : Outcome Tables). o.after) (tick-refused t s e)
 
   module _ (bq : Slice t.queues) (bp : Slice t.pool) (bw : Slice t.tasks) where
@@ -122,14 +121,14 @@ module _ (t : Tables) where
         let after = demand-2.sound-stays t c before p in
         rw (after.bytes.lengths, after.is_sound)
 
-    pub verdict-stays : (v : Verdict) → verdict_status v ≡ first_status (table_refusals t) → (r : List ℕ) → Slice r
+    pub verdict-stays : (v : Result Unit RefusalStatus) → verdict_status v ≡ first_status (table_refusals t) → (r : List ℕ) → Slice r
         → verdict_status v ≡ first_status (table_refusals (replay_record t r).after)
     unfolding replay_record replay_found outcome_for
     verdict-stays v e r s = go v e (read_record r) (record-in-range r s)
       where
-        go : (v : Verdict) → verdict_status v ≡ first_status (table_refusals t) → (f : LogResult) → InRange (message_of r) f
+        go : (v : Result Unit RefusalStatus) → verdict_status v ≡ first_status (table_refusals t) → (f : LogResult) → InRange (message_of r) f
             → verdict_status v ≡ first_status (table_refusals (outcome_for t f (message_of r)).after)
-        go Passed e (WellFormed c) p = sound-still (call_of c (message_of r)) p e
-        go (Refused s) e (WellFormed c) p = e ∙ ap (λ (x : Tables). first_status (table_refusals x)) (unchanged s e (call_of c (message_of r)))
+        go (Ok _) e (WellFormed c) p = sound-still (call_of c (message_of r)) p e
+        go (Err s) e (WellFormed c) p = e ∙ ap (λ (x : Tables). first_status (table_refusals x)) (unchanged s e (call_of c (message_of r)))
         go v e Malformed p = e
         go v e End p = e

@@ -1,10 +1,8 @@
 -- Document 01, "The call log": a log replayed over the tables, and what is written of it.
-use Rattle.std.specs.Prelude.{ℕ, ◌+◌, ◌*◌, ◌≤◌, ◌<◌, Bool, true, false, List, [], ◌∷◌, ◌++◌, length, leb, if◌then◌else◌}
-use Rattle.ranks.specs.Table.{byte, slice, records, spliced}
+use Rattle.std.specs.Prelude.{ℕ, ◌*◌, Bool, true, false, List, [], ◌∷◌, ◌++◌, length, leb, if◌then◌else◌}
+use Rattle.ranks.specs.Table.{byte, records, spliced}
 use Rattle.records.specs.Bytes.{Tables}
-use Rattle.records.specs.declared.status.Verdict.{Verdict}
-use Rattle.common_refusals.specs.Tested.{Tested}
-use Rattle.calllog.specs.CallLog.{record_width, read_record, place_after, message_of, answer_width, record_count}
+use Rattle.calllog.specs.CallLog.{record_width, read_record, message_of, answer_width, record_count}
 use Rattle.calllog.specs.declared.call.LogResult.{LogResult}
 use Rattle.logged_calls.specs.LoggedCall.{outcome_for, answer_record}
 
@@ -41,17 +39,6 @@ replayed t log = replay_records t (records_of log)
 
 -- ---- Into lent bytes
 
--- one record more: the place that the reader moves on to, the lent bytes and the tables after it
-pub record ReplayedAt : Type 0 where
-  pub next : ℕ
-  pub answers : List ℕ
-  pub after : Tables
-
--- what stands at a place of a log, its answer record from the place `to` of the lent bytes on
-unfoldable pub replayed_at : Tables → (log : List ℕ) (at : ℕ) (lent : List ℕ) (to : ℕ) → ReplayedAt
-replayed_at t log at lent to =
-    let r = replay_record t (slice at record_width log) in record { next = place_after log at; answers = spliced lent to r.answers; after = r.after }
-
 -- the answer records at the front of the lent bytes
 unfoldable pub replayed_front : Tables → (log lent : List ℕ) → Replayed
 replayed_front t log lent = let r = replayed t log in record { answers = spliced lent 0 r.answers; after = r.after }
@@ -69,11 +56,3 @@ into_lent done r = record { done = done; answers = r.answers; after = r.after }
 unfoldable pub replayed_into : Tables → (log lent : List ℕ) → ReplayedInto
 replayed_into t log lent =
     if leb (record_count (length log) * answer_width) (length lent) then into_lent true (replayed_front t log lent) else into_lent false (record { answers = lent; after = t })
-
--- ---- For the code
-
--- where the next record of a log is replayed: its place is not at the end, its answer record has room, and the tables' own tests gave the verdict
-pub record NextRecord (t : Tables) (verdict : Verdict) (log : List ℕ) (at : ℕ) (lent : List ℕ) (to : ℕ) : Type 0 where
-  pub inside : at < length log
-  pub room : to + answer_width ≤ length lent
-  pub tested : Tested t verdict

@@ -3,56 +3,31 @@ ghost use Rattle.std.specs.Prelude.{◌≡◌, ◌*◌, ◌≤◌, ◌<◌, leng
 ghost use Rattle.records.specs.Bytes.{tables};
 ghost use Rattle.common_refusals.specs.Tested.{Tested};
 ghost use Rattle.calllog.specs.CallLog.{answer_width, record_count};
-ghost use Rattle.runs.specs.Replay.{NextRecord, replay_found, replayed_at, replayed, replayed_front, replayed_into};
+ghost use Rattle.runs.specs.Replay.{replay_found, replayed, replayed_front, replayed_into};
 
-use calllog::call::LogResult;
 use calllog::decode::{message_field, record_count};
 use calllog::layout::ANSWER_WIDTH;
-use calllog::reader::read_at;
+use calllog::reader::{LogReader, LogRecord};
 use common_refusals::table_refusal;
 use logged_calls::answer::{answer, answer_record};
-use octets::copy::copy_into;
-use records::status::Verdict;
+use records::status::RefusalStatus;
 
-// One record of a log, where the reader found this and the tests of the tables gave this verdict: its answer record.
-fn replay_record(
+// What a reader found in a log, on tables whose own tests gave this verdict: its answer record.
+#[tactic(auto, unfolding(crate::specs::Replay::replay_found))]
+fn replay_found(
     queues: &mut [u8],
     pool: &mut [u8],
     tasks: &mut [u8],
-    found: LogResult,
-    part: &[u8],
-    verdict: Verdict,
+    found: LogRecord,
+    verdict: Result<(), RefusalStatus>,
 ) -> [u8; ANSWER_WIDTH]
-    requires { (0 < length part.now) × Tested (tables queues.old pool.old tasks.old) verdict }
+    requires { (0 < length found.bytes.now) × Tested (tables queues.old pool.old tasks.old) verdict }
     ensures { (record { answers = result; after = tables queues.new pool.new tasks.new })
-        ≡ replay_found (tables queues.old pool.old tasks.old) found part.now }
+        ≡ replay_found (tables queues.old pool.old tasks.old) found.entry.result found.entry.bytes.now }
 {
-    let a = answer(queues, pool, tasks, found, message_field(part), verdict);
-    answer_record(a, part[0])
-}
-
-// What stands at the place that the reader has reached, on tables whose own tests gave this verdict: its answer record goes to place `to` of the lent
-// bytes. The place that the reader moves on to.
-fn replay_at(
-    queues: &mut [u8],
-    pool: &mut [u8],
-    tasks: &mut [u8],
-    log: &[u8],
-    at: usize,
-    verdict: Verdict,
-    answers: &mut [u8],
-    to: usize,
-) -> usize
-    requires { NextRecord (tables queues.old pool.old tasks.old) verdict log.now at answers.old to }
-    ensures { (record { next = result; answers = answers.new; after = tables queues.new pool.new tasks.new })
-        ≡ replayed_at (tables queues.old pool.old tasks.old) log.now at answers.old to }
-{
-    let reading = read_at(log, at);
-    let found = reading.result;
-    let next = reading.next;
-    let a = replay_record(queues, pool, tasks, found, &log[at..next], verdict);
-    copy_into(answers, to, &a);
-    next
+    let message = message_field(found.bytes);
+    let a = answer(queues, pool, tasks, found.result, message, verdict);
+    answer_record(a, found.bytes[0])
 }
 
 // Replays a log. The answer records go to the front of the lent bytes, which have room for them. How many bytes they are.
@@ -70,16 +45,17 @@ pub fn replay_all(
         ≡ replayed_front (tables queues.old pool.old tasks.old) log.now answers.old) }
 {
     let verdict = table_refusal(queues, pool, tasks);
-    let mut at = 0;
-    let mut to = 0;
-    while at < log.len() {
-        at = replay_at(queues, pool, tasks, log, at, verdict, answers, to);
-        to += ANSWER_WIDTH;
+    let mut written = 0;
+    for found in LogReader::at(log, 0) {
+        let a = replay_found(queues, pool, tasks, found, verdict);
+        answers[written..written + ANSWER_WIDTH].copy_from_slice(&a);
+        written += ANSWER_WIDTH;
     }
-    to
+    written
 }
 
 // Replays a log, or does nothing where the lent bytes have no room for its answer records. Whether it was replayed.
+#[tactic(auto, unfolding(crate::specs::Replay::replayed_into))]
 pub fn replay(
     queues: &mut [u8],
     pool: &mut [u8],

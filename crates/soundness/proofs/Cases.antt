@@ -1,25 +1,26 @@
 -- The rules of one record, as the code tests them. Assumes nothing.
 use Rattle.std.specs.Prelude.{if◌then◌else◌}
-use Prim.Native.Nat.{ℕ, suc, pred, ◌+◌, ◌≤◌, ◌<◌}
+use Prim.Native.Nat.{ℕ, suc, pred, ◌+◌, ◌-◌, ◌≤◌, ◌<◌}
 use native.Mathlib.Omega.{arith}
-use mathlib.Core.Path.{◌≡◌, refl, sym, ap, ap₂, ◌∙◌}
+use mathlib.Core.Path.{◌≡◌, refl, sym, ap, ◌∙◌}
 use mathlib.Core.Bool.{Bool, true, false, ◌&&◌, ◌||◌, and-true, and-false, and_assoc}
 use mathlib.Core.Logic.{⊎_elim}
 use mathlib.Core.List.{List, [], ◌∷◌}
 use lib.Dec.{eqb, leb, ltb}
-use lib.ListN.{length, drop}
+use lib.ListN.{drop}
 use borrow.Author.Tests.{eqb-true, eq-eqb, ne_eqb, lt-ltb, le-ltb, le-leb, lt-leb}
 use Rattle.ranks.specs.Lists.{all_true, all_zero}
-use Rattle.ranks.specs.Table.{slice, byte}
-use Rattle.ranks.proofs.Tests.{both, and, or_left}
+use Rattle.ranks.specs.Table.{slice}
+use Rattle.ranks.proofs.Tests.{both, and, or_left, same?, lt-or-ge}
 use Rattle.ranks.proofs.Lists.{all_cons, all_nil, holds, held}
-use Rattle.records.specs.Layout.{slot_count, task_width}
+use Rattle.records.specs.Layout.{slot_count}
 use Rattle.records.specs.Split.{share_of_slot, share_of_buffer, share_of_task}
 use Rattle.records.specs.Records.{Queue, Buffer, Task, State, queue_at, is_live, is_open, size_allowed, ready_state, waiting_state}
 use Rattle.octets.specs.LittleEndian.{from_little_endian}
 use Rattle.records.specs.Status.{WAITING}
-use Rattle.octets.proofs.ZeroBytes.{zero_number, zeros-one, zeros-add}
+use Rattle.octets.proofs.ZeroBytes.{zero_number, zeros-add}
 use Rattle.specification.proofs.Rules.{Live, Free, queue-rules}
+use Rattle.soundness.specs.declared.ranked.Kind.TheVariants.{Waiters}
 use Rattle.soundness.specs.Parts.{below_count, buffer_tests, task_tests, used_buffer_tests, waiting_task_tests}
 use Rattle.specification.specs.Sound.{slot_in, sound_queue, live_queue_rules, free_queue_rules, limit_in, sound_buffer, free_buffer_rules, used_buffer_rules, sound_task, task_rules, ready_task_rules, waiting_task_rules}
 
@@ -94,36 +95,29 @@ module _ (q : Queue) (slot b : ℕ) (m : Buffer) {live own size zeros rest : Boo
 -- ---- Tasks
 
 -- the tests of a ready task in the order of the code, and in that of the rules
-same_tests : (a b c d e t u p s l : Bool) → all_true (a ∷ b ∷ c ∷ d ∷ e ∷ t ∷ u ∷ p ∷ s ∷ l ∷ []) ≡ all_true (p ∷ d ∷ e ∷ u ∷ a ∷ b ∷ c ∷ t ∷ s ∷ l ∷ [])
-same_tests a b c d e t u p s l =
+same_tests : (a b c d t u p s l : Bool) → all_true (a ∷ b ∷ c ∷ d ∷ t ∷ u ∷ p ∷ s ∷ l ∷ []) ≡ all_true (p ∷ d ∷ u ∷ a ∷ b ∷ c ∷ t ∷ s ∷ l ∷ [])
+same_tests a b c d t u p s l =
     same_truth _ _
     (λ x.
-    let (a, (b, (c, (d, (e, (t, (u, (p, (s, (l, _)))))))))) = holds (a ∷ b ∷ c ∷ d ∷ e ∷ t ∷ u ∷ p ∷ s ∷ l ∷ []) x in
-    held (_ ∷ _ ∷ _ ∷ _ ∷ _ ∷ _ ∷ _ ∷ _ ∷ _ ∷ _ ∷ []) (p, (d, (e, (u, (a, (b, (c, (t, (s, (l, tt)))))))))))
+    let (a, (b, (c, (d, (t, (u, (p, (s, (l, _))))))))) = holds (a ∷ b ∷ c ∷ d ∷ t ∷ u ∷ p ∷ s ∷ l ∷ []) x in
+    held (_ ∷ _ ∷ _ ∷ _ ∷ _ ∷ _ ∷ _ ∷ _ ∷ _ ∷ []) (p, (d, (u, (a, (b, (c, (t, (s, (l, tt))))))))))
     (λ x.
-    let (p, (d, (e, (u, (a, (b, (c, (t, (s, (l, _)))))))))) = holds (p ∷ d ∷ e ∷ u ∷ a ∷ b ∷ c ∷ t ∷ s ∷ l ∷ []) x in
-    held (_ ∷ _ ∷ _ ∷ _ ∷ _ ∷ _ ∷ _ ∷ _ ∷ _ ∷ _ ∷ []) (a, (b, (c, (d, (e, (t, (u, (p, (s, (l, tt)))))))))))
+    let (p, (d, (u, (a, (b, (c, (t, (s, (l, _))))))))) = holds (p ∷ d ∷ u ∷ a ∷ b ∷ c ∷ t ∷ s ∷ l ∷ []) x in
+    held (_ ∷ _ ∷ _ ∷ _ ∷ _ ∷ _ ∷ _ ∷ _ ∷ _ ∷ []) (a, (b, (c, (d, (t, (u, (p, (s, (l, tt))))))))))
 
-module _ (r : List ℕ) (long : length r ≡ task_width) where
-  pub ready-tests : (a b c p s l : Bool)
-      → (a && b && c && eqb (byte 6 r) 0 && eqb (byte 7 r) 0 && all_zero (slice 8 8 r) && p && s && l)
-      ≡ (all_true (p ∷ all_zero (slice 6 2 r) ∷ all_zero (slice 12 4 r) ∷ []) && all_true (a ∷ b ∷ c ∷ eqb (from_little_endian (slice 8 4 r)) 0 ∷ s ∷ l ∷ []))
-  ready-tests a b c p s l =
-      ap (λ (z : Bool). a && b && c && eqb (byte 6 r) 0 && eqb (byte 7 r) 0 && z && p && s && l) (sym (zeros-add 8 4 4 r))
-      ∙ flat a b c (eqb (byte 6 r) 0) (eqb (byte 7 r) 0) (all_zero (slice 8 4 r)) (all_zero (slice 12 4 r)) p s l
-      ∙ sym (spell a b c (eqb (byte 6 r) 0) (eqb (byte 7 r) 0) (all_zero (slice 8 4 r)) (all_zero (slice 12 4 r)) p s l)
-      ∙ same_tests a b c (eqb (byte 6 r) 0) (eqb (byte 7 r) 0) (all_zero (slice 8 4 r)) (all_zero (slice 12 4 r)) p s l
-      ∙ spell p (eqb (byte 6 r) 0) (eqb (byte 7 r) 0) (all_zero (slice 12 4 r)) a b c (all_zero (slice 8 4 r)) s l
-      ∙ sym (rw (zero_number (slice 8 4 r), pair) (simp (all_cons, all_nil, and-true, and_assoc)))
-    where
-      spell : (a b c d e t u p s l : Bool) → all_true (a ∷ b ∷ c ∷ d ∷ e ∷ t ∷ u ∷ p ∷ s ∷ l ∷ []) ≡ (a && (b && (c && (d && (e && (t && (u && (p && (s && l)))))))))
-      spell a b c d e t u p s l = simp (all_cons, all_nil, and-true)
-
-      flat : (a b c d e t u p s l : Bool) → (a && b && c && d && e && (t && u) && p && s && l) ≡ (a && (b && (c && (d && (e && (t && (u && (p && (s && l)))))))))
-      flat a b c d e t u p s l = simp and_assoc
-
-      pair : all_zero (slice 6 2 r) ≡ (eqb (byte 6 r) 0 && eqb (byte 7 r) 0)
-      pair = sym (zeros-add 6 1 1 r) ∙ sym (ap₂ (λ (x y : Bool). x && y) (zeros-one r 6 (omega arith)) (zeros-one r 7 (omega arith)))
+pub ready-tests : (r : List ℕ) (a b c p s l : Bool)
+    → (a && b && c && all_zero (slice 6 2 r) && all_zero (slice 8 8 r) && p && s && l)
+    ≡ (all_true (p ∷ all_zero (slice 6 2 r) ∷ all_zero (slice 12 4 r) ∷ []) && all_true (a ∷ b ∷ c ∷ eqb (from_little_endian (slice 8 4 r)) 0 ∷ s ∷ l ∷ []))
+ready-tests r a b c p s l =
+    let d = all_zero (slice 6 2 r) in
+    let t = all_zero (slice 8 4 r) in
+    let u = all_zero (slice 12 4 r) in
+    ap (λ (z : Bool). a && b && c && d && z && p && s && l) (sym (zeros-add 8 4 4 r))
+    ∙ spell a b c d t u p s l ∙ same_tests a b c d t u p s l
+    ∙ sym (rw (zero_number (slice 8 4 r)) (simp (all_cons, all_nil, and-true, and_assoc)))
+  where
+    spell : (a b c d t u p s l : Bool) → (a && b && c && d && (t && u) && p && s && l) ≡ all_true (a ∷ b ∷ c ∷ d ∷ t ∷ u ∷ p ∷ s ∷ l ∷ [])
+    spell a b c d t u p s l = simp (all_cons, all_nil, and-true, and_assoc)
 
 module _ (s : State) (t : ℕ) (w : Task) where
   task-ready : (w.state ≡ waiting_state → ⊥) → (all_true (task_rules w) && all_true (ready_task_rules w)) ≡ sound_task s t w
@@ -139,10 +133,10 @@ module _ (s : State) (t : ℕ) (w : Task) where
       sym (and (sym (task-ready (λ one. omega arith)) ∙ e) (or_left _ rules.1.0))
 
   pub task-not-ready : (w.state ≡ waiting_state → ⊥) → false ≡ (all_true (task_rules w) && all_true (ready_task_rules w)) → false ≡ task_tests s t w
-  task-not-ready ne e = ap (λ (x : Bool). x && below_count false s.queues w.position) (e ∙ task-ready ne)
+  task-not-ready ne e = ap (λ (x : Bool). x && below_count Waiters s.queues w.position) (e ∙ task-ready ne)
 
   module _ (waits : w.state ≡ waiting_state) where
-    pub task-nowhere : w.position.queue ≡ 0 → false ≡ task_tests s t w
+    task-nowhere : w.position.queue ≡ 0 → false ≡ task_tests s t w
     unfolding sound_task waiting_task_rules
     task-nowhere e = rw (eq-eqb w.state waiting_state waits, all_cons, lt-leb 1 w.position.queue (omega arith), and-false)
 
@@ -150,13 +144,20 @@ module _ (s : State) (t : ℕ) (w : Task) where
       named-slot : slot_in w.position ≡ slot
       named-slot = ap pred e
 
-      pub task-beyond : slot_count ≤ slot → false ≡ task_tests s t w
+      task-beyond : slot_count ≤ slot → false ≡ task_tests s t w
       unfolding sound_task waiting_task_rules
       task-beyond h = rw (eq-eqb w.state waiting_state waits, named-slot, le-leb 1 w.position.queue (omega arith), le-ltb slot slot_count h) (simp (all_cons, and-false))
 
       pub task-waiting : waiting_task_tests (queue_at s slot) slot t w ≡ task_tests s t w
       unfolding sound_task
       task-waiting = rw (eq-eqb w.state waiting_state waits, named-slot, not_none _ _ e)
+
+    -- a task that names no queue
+    pub task-elsewhere : (1 ≤ w.position.queue → w.position.queue ≤ slot_count → ⊥) → false ≡ task_tests s t w
+    task-elsewhere out =
+        ⊎_elim task-nowhere
+        (λ (some : w.position.queue ≡ 0 → ⊥). task-beyond (w.position.queue - 1) (omega arith) (⊎_elim (λ (lt : w.position.queue - 1 < slot_count). absurd (out (omega arith) (omega arith))) (λ ge. ge) (lt-or-ge (w.position.queue - 1) slot_count)))
+        (same? w.position.queue 0)
 
 module _ (q : Queue) (slot t : ℕ) (w : Task) {zeros zeros-after own live free : Bool} where
   pub waiting-tests : slot < slot_count → w.position.queue ≡ slot + 1 → zeros ≡ all_zero w.reserved → zeros-after ≡ all_zero w.reserved_after

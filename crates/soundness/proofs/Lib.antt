@@ -1,4 +1,5 @@
 pub mod Cases
+pub mod EachRecord
 pub mod Orders
 pub mod Ranks
 pub mod RecordTests

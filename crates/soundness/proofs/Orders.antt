@@ -1,12 +1,16 @@
 -- The order of waiters by priority, as the code tests it. Assumes nothing.
-use Prim.Native.Nat.{ℕ, zero, suc, ◌+◌, ◌-◌, ◌≤◌, ◌<◌}
+use Prim.Native.Nat.{ℕ, suc, ◌+◌, ◌≤◌, ◌<◌}
+use native.Mathlib.Numerals.{add-one}
 use native.Mathlib.Omega.{arith}
 use mathlib.Core.Path.{◌≡◌, refl, sym, ap, subst, ◌∙◌}
-use mathlib.Core.Bool.{Bool, true, false, ◌&&◌, true≢false}
+use mathlib.Core.Bool.{Bool, true, false, ◌||◌, not, true≢false}
 use mathlib.Core.Logic.{⊎_elim}
 use mathlib.Core.List.{List}
-use lib.ListN.{length, get_or, set}
-use lib.Seq.{get_or-set_same, get_or-set_other}
+use lib.Dec.{ltb}
+use lib.ListN.{length, get_or, set, take}
+use lib.Seq.{get_or-set_same, get_or-set_other, get_or-take, length-take-le}
+use Rattle.std.specs.Bool.{MatchBool}
+use Rattle.std.specs.List.Sorted.{IsNonDecreasing}
 use borrow.Author.Tests.{eqb-true, eq-eqb, ltb-true, lt-ltb, leb-true, le-leb}
 use Rattle.ranks.specs.Lists.{◌implies◌}
 use Rattle.ranks.specs.Position.{Position}
@@ -17,11 +21,14 @@ use Rattle.ranks.proofs.Ranks.{Ranked}
 use Rattle.ranks.proofs.Ranked.{implied, implying}
 use Rattle.ranks.proofs.ByRank.{held-bound}
 use Rattle.records.specs.Layout.{task_count, task_width}
-use Rattle.records.specs.Records.{Queue, Task, State, fresh_task, is_live, has_priority}
-use Rattle.records.specs.Bytes.{decode_task, decode_tasks}
-use Rattle.records.proofs.Writing.{length-decoded}
+use Rattle.records.specs.Records.{Queue, Task, fresh_task, is_live, has_priority}
+use Rattle.records.specs.Bytes.{decode_task, decode_tasks, decode_task_at}
+use Rattle.records.specs.TaskHeads.{head_of}
+use Rattle.records.specs.declared.task.TaskHead.{TaskHead}
+use Rattle.records.proofs.Writing.{length-decoded, at_table}
 use Rattle.specification.specs.Sound.{by_priority}
 use Rattle.specification.proofs.SoundFacts.{rank-each}
+use Rattle.soundness.specs.declared.ranked.Kind.TheVariants.{Waiters}
 use Rattle.soundness.specs.Parts.{only_tasks, task_positions, queue_ranked, queue_in_order, OneAtRank, PrioritiesAtRanks}
 use Rattle.soundness.proofs.RecordTests.{task-positions}
 
@@ -68,23 +75,31 @@ module _ (t : List ℕ) where
 
     -- ---- Priorities by rank
 
-    module _ (one : OneAtRank slot (decode_tasks t)) (k : ℕ) (l : List ℕ) (noted : PrioritiesAtRanks slot k (decode_tasks t) l) where
-      pub note-one : k < task_count → (W k).position.queue ≡ suc slot → (W k).position.rank < length l
-          → PrioritiesAtRanks slot (k + 1) (decode_tasks t) (set l (W k).position.rank (W k).priority)
-      note-one hk here inside j hj q =
+    -- the head of task k is read, and noted if it waits in the queue
+    module _ (one : OneAtRank slot (decode_tasks t)) (k : ℕ) (hk : k < task_count) (l : List ℕ) (noted : PrioritiesAtRanks slot k (decode_tasks t) l)
+        (h : TaskHead) (read : h ≡ head_of (decode_task_at k t)) where
+      same : h ≡ head_of (W k)
+      same = read ∙ sym (ap head_of (at_table decode_task task_count task_width t k hk (fresh_task 1)))
+
+      pub note-one : h.queue ≡ slot + 1 → h.rank < length l → PrioritiesAtRanks slot (k + 1) (decode_tasks t) (set l h.rank h.priority)
+      note-one here inside j hj q =
+          let rank : h.rank ≡ (W k).position.rank = ap (λ (x : TaskHead). x.rank) same in
           ⊎_elim
           (λ (lt : j < k).
-          get_or-set_other l (W k).position.rank (W j).position.rank (W k).priority 0
-          (λ (same : (W j).position.rank ≡ (W k).position.rank). let x : j ≡ k = one j k (omega arith) hk q here same in omega arith) ∙ noted j lt q)
+          get_or-set_other l h.rank (W j).position.rank h.priority 0
+          (λ (e : (W j).position.rank ≡ h.rank).
+          let x : j ≡ k = one j k (omega arith) hk q (sym (ap (λ (x : TaskHead). x.queue) same) ∙ here ∙ add-one slot) (e ∙ rank) in omega arith) ∙ noted j lt q)
           (λ (ge : k ≤ j).
           let x : j ≡ k = omega arith in
-          subst (λ (i : ℕ). get_or (set l (W k).position.rank (W k).priority) (W i).position.rank 0 ≡ (W i).priority) (sym x)
-          (get_or-set_same l (W k).position.rank (W k).priority 0 inside)) (lt-or-ge j k)
+          subst (λ (i : ℕ). get_or (set l h.rank h.priority) (W i).position.rank 0 ≡ (W i).priority) (sym x)
+          (subst (λ (r : ℕ). get_or (set l h.rank h.priority) r 0 ≡ (W k).priority) rank
+          (get_or-set_same l h.rank h.priority 0 inside ∙ ap (λ (x : TaskHead). x.priority) same))) (lt-or-ge j k)
 
-      pub note-none : ((W k).position.queue ≡ suc slot → ⊥) → PrioritiesAtRanks slot (k + 1) (decode_tasks t) l
+      pub note-none : (h.queue ≡ slot + 1 → ⊥) → PrioritiesAtRanks slot (k + 1) (decode_tasks t) l
       note-none elsewhere j hj q =
           ⊎_elim (λ (lt : j < k). noted j lt q)
-          (λ (ge : k ≤ j). absurd (elsewhere (subst (λ (i : ℕ). (W i).position.queue ≡ suc slot) (let x : j ≡ k = omega arith in x) q))) (lt-or-ge j k)
+          (λ (ge : k ≤ j).
+          absurd (elsewhere (ap (λ (x : TaskHead). x.queue) same ∙ subst (λ (i : ℕ). (W i).position.queue ≡ suc slot) (let x : j ≡ k = omega arith in x) q ∙ sym (add-one slot)))) (lt-or-ge j k)
 
     module _ (n : ℕ) (is : ranked slot n (task_positions t) ≡ true) where
       r : Ranked task_count (λ j. (W j).position) slot n
@@ -96,47 +111,51 @@ module _ (t : List ℕ) where
       pub few-in-order : n < 2 → by_priority (only_tasks t) slot ≡ true
       few-in-order h = in_order (λ i j hi hj qi qj lt. absurd (omega (arith, r.below j hj qj)))
 
-      module _ (l : List ℕ) (noted : PrioritiesAtRanks slot task_count (decode_tasks t) l) where
-        -- no priority is below the one before it
-        pub rising : ((k : ℕ) → 1 ≤ k → k < n → get_or l (k - 1) 0 ≤ get_or l k 0) → by_priority (only_tasks t) slot ≡ true
-        rising step =
-            in_order (λ i j hi hj qi qj lt.
-            let le : get_or l (W i).position.rank 0 ≤ get_or l (W j).position.rank 0 =
-            far (W i).position.rank ((W j).position.rank - (W i).position.rank) (W j).position.rank (omega arith) (r.below j hj qj) in
-            omega (arith, noted i hi qi, noted j hj qj))
-          where
-            far : (a d b : ℕ) → b ≡ a + d → b < n → get_or l a 0 ≤ get_or l b 0
-            far a zero b x h = let y : b ≡ a = omega arith in subst (λ (i : ℕ). get_or l a 0 ≤ get_or l i 0) (sym y) (omega arith)
-            far a (suc d) b x h =
-                let before : get_or l a 0 ≤ get_or l (b - 1) 0 = far a d (b - 1) (omega arith) (omega arith) in
-                let next : get_or l (b - 1) 0 ≤ get_or l b 0 = step b (omega arith) h in
-                omega arith
+      -- the first n priorities by rank never fall exactly if the waiters are in order
+      module _ (l : List ℕ) (noted : PrioritiesAtRanks slot task_count (decode_tasks t) l) (long : n ≤ length l) where
+        ranks-long : length (take n l) ≡ n
+        ranks-long = length-take-le n l long
 
-        pub falling : (k : ℕ) → 1 ≤ k → k < n → get_or l k 0 < get_or l (k - 1) 0 → by_priority (only_tasks t) slot ≡ false
-        falling k low h less =
-            let (i, hi, qi, ri) = r.some (k - 1) (omega arith) in
-            let (j, hj, qj, rj) = r.some k h in
-            let pi : get_or l (k - 1) 0 ≡ (W i).priority = ap (λ (x : ℕ). get_or l x 0) (sym ri) ∙ noted i hi qi in
-            let pj : get_or l k 0 ≡ (W j).priority = ap (λ (x : ℕ). get_or l x 0) (sym rj) ∙ noted j hj qj in
-            out_of_order i j hi hj qi qj (omega arith) (omega arith)
+        priority-at : (j : ℕ) → j < task_count → (W j).position.queue ≡ suc slot → get_or (take n l) (W j).position.rank 0 ≡ (W j).priority
+        priority-at j hj qj = get_or-take n l (W j).position.rank 0 (r.below j hj qj) ∙ noted j hj qj
+
+        pub order-sorted : (b : Bool) → MatchBool b (IsNonDecreasing (take n l)) ((k : ℕ) × (k + 1 < length (take n l)) × ((d : ℕ) → get_or (take n l) (k + 1) d < get_or (take n l) k d))
+            → b ≡ by_priority (only_tasks t) slot
+        order-sorted true rising =
+            sym (in_order (λ i j hi hj qi qj lt.
+            let le : get_or (take n l) (W i).position.rank 0 ≤ get_or (take n l) (W j).position.rank 0 =
+            rising (W i).position.rank (W j).position.rank 0 (omega arith) (omega (arith, ranks-long, r.below j hj qj)) in
+            omega (arith, priority-at i hi qi, priority-at j hj qj)))
+        order-sorted false (k, h, falls) =
+            let (i, hi, qi, ri) = r.some k (omega (arith, ranks-long)) in
+            let (j, hj, qj, rj) = r.some (k + 1) (omega (arith, ranks-long)) in
+            let pi : get_or (take n l) k 0 ≡ (W i).priority = ap (λ (x : ℕ). get_or (take n l) x 0) (sym ri) ∙ priority-at i hi qi in
+            let pj : get_or (take n l) (k + 1) 0 ≡ (W j).priority = ap (λ (x : ℕ). get_or (take n l) x 0) (sym rj) ∙ priority-at j hj qj in
+            sym (out_of_order i j hi hj qi qj (omega arith) (omega (arith, falls 0)))
 
 -- ---- One queue
 
-module _ (s : State) (slot : ℕ) (q : Queue) where
-  pub order-free : (is_live q && has_priority q) ≡ false → true ≡ queue_in_order s slot q
-  unfolding ◌implies◌
-  order-free = go (is_live q) (has_priority q) (by_priority s slot)
+module _ (t : List ℕ) (slot : ℕ) (q : Queue) {live priority : Bool} (l : live ≡ is_live q) (p : priority ≡ has_priority q) (ranks : queue_ranked Waiters (task_positions t) slot q ≡ true) where
+  -- a queue with fewer than two waiters, or one that is free or without PRIORITY
+  pub order-skipped : ((ltb q.waiters 2 || not live) || not priority) ≡ true → true ≡ queue_in_order (only_tasks t) slot q
+  order-skipped e =
+      sym (implying _ _ (λ (is : is_live q ≡ true). implying _ _ (λ (has : has_priority q ≡ true).
+      few-in-order t slot q.waiters (implied ranks is) (ltb-true _ _ (few (ltb q.waiters 2) (rw (l ∙ is, p ∙ has) at e))))))
     where
-      go : (a b c : Bool) → (a && b) ≡ false → true ≡ (a implies (b implies c))
-      go true true c e = absurd (true≢false e)
-      go true false c e = refl
-      go false b c e = refl
+      few : (w : Bool) → ((w || not true) || not true) ≡ true → w ≡ true
+      few true h = refl
+      few false h = h
 
-  pub order-tested : (is_live q && has_priority q) ≡ true → by_priority s slot ≡ queue_in_order s slot q
-  unfolding ◌implies◌
-  order-tested e = let (l, p) = both (is_live q) (has_priority q) e in rw (l, p)
+  module _ (e : ((ltb q.waiters 2 || not live) || not priority) ≡ false) where
+    asked : (a b c : Bool) → ((a || not b) || not c) ≡ false → (b ≡ true) × (c ≡ true)
+    asked true b c h = absurd (true≢false h)
+    asked false true true h = (refl, refl)
+    asked false true false h = absurd (true≢false h)
+    asked false false c h = absurd (true≢false h)
 
--- fewer than two waiters
-pub order-few : (t : List ℕ) (slot : ℕ) (q : Queue) → q.waiters < 2 → queue_ranked false (task_positions t) slot q ≡ true
-    → true ≡ queue_in_order (only_tasks t) slot q
-order-few t slot q w is = sym (implying _ _ (λ l. implying _ _ (λ _. few-in-order t slot q.waiters (implied is l) w)))
+    pub waiters-ranks : ranked slot q.waiters (task_positions t) ≡ true
+    waiters-ranks = implied ranks (sym l ∙ (asked _ live priority e).0)
+
+    pub order-tested : by_priority (only_tasks t) slot ≡ queue_in_order (only_tasks t) slot q
+    unfolding ◌implies◌
+    order-tested = let (x, y) = asked _ live priority e in rw (sym l ∙ x, sym p ∙ y) refl

@@ -1,5 +1,5 @@
 -- The ranks of a queue, tested rank by rank over the records, for messages and waiters alike. Assumes nothing.
-use Prim.Native.Nat.{ℕ, zero, suc, pred, ◌+◌, ◌*◌, ◌/◌, ◌%◌, ◌≤◌, ◌<◌}
+use Prim.Native.Nat.{ℕ, zero, suc, pred, ◌+◌, ◌*◌, ◌≤◌, ◌<◌}
 use native.Mathlib.Nat.{zero-add}
 use native.Mathlib.Numerals.{add-one}
 use native.Mathlib.Omega.{arith}
@@ -12,7 +12,8 @@ use lib.ListN.{length, get_or, drop, get_or-eq_default}
 use lib.Seq.{drop-cons, get_or-drop}
 use borrow.Author.Tests.{eqb-true, eq-eqb, ltb-true, lt-ltb, not-false}
 use Rattle.std.specs.Prelude.{if◌then◌else◌}
-use Rattle.ranks.specs.Lists.{◌implies◌, count_true, every, map_with_index, numbers_from}
+use Rattle.ranks.specs.Lists.{◌implies◌, count_true, every, numbers_from}
+use Rattle.ranks.specs.declared.Positions.{Positions}
 use Rattle.ranks.specs.Position.{Position, no_queue, in_queue, stands_at}
 use Rattle.ranks.specs.Table.{records, position_in, Shape}
 use Rattle.ranks.specs.Steps.{ranked}
@@ -20,11 +21,10 @@ use Rattle.ranks.proofs.Tests.{either, both, and, or, same?, lt-or-ge}
 use Rattle.ranks.proofs.Lists.{at-mapped, length-mapped, every-at, every-from, count_none, length-range, at-range}
 use Rattle.ranks.proofs.Ranked.{implying}
 use Rattle.ranks.proofs.Table.{length-records, at_records, position-slice}
-use Rattle.octets.specs.LittleEndian.{byte_values}
 use Rattle.records.specs.Layout.{slot_count}
 use Rattle.records.specs.Records.{Queue, free_queue, is_live}
-use Rattle.soundness.specs.Parts.{positions, position_of, held, below_count, Among, queue_ranked}
-use Rattle.soundness.proofs.Cases.{same_truth}
+use Rattle.soundness.specs.declared.ranked.Kind.{Kind}
+use Rattle.soundness.specs.Parts.{positions_in, stood, held, below_count, Among, queue_ranked}
 
 -- ---- Counting
 
@@ -53,39 +53,20 @@ count-before [] (suc i) h = refl
 count-before (true ∷ bs) (suc i) h = absurd (true≢false (h 0 (omega arith)))
 count-before (false ∷ bs) (suc i) h = count-before bs i (λ j lt. h (suc j) (omega arith))
 
--- ---- Positions as numbers
-
-pub number-position : (q r : ℕ) → q < byte_values → position_of (q + byte_values * r) ≡ record { queue = q; rank = r }
-number-position q r h =
-    let x : (q + byte_values * r) % byte_values ≡ q = omega arith in
-    let y : (q + byte_values * r) / byte_values ≡ r = omega arith in
-    λ j. record { queue = x j; rank = y j }
-
--- a number is that of a rank of a queue exactly if the position that it stands for is there
-stands-number : (n slot rank : ℕ) → slot < slot_count → eqb n (slot + 1 + byte_values * rank) ≡ stands_at slot rank (position_of n)
-stands-number n slot rank h =
-    same_truth _ _
-    (λ e. let x : n ≡ slot + 1 + byte_values * rank = eqb-true _ _ e in and (eq-eqb (n % byte_values) (suc slot) (omega arith)) (eq-eqb (n / byte_values) rank (omega arith)))
-    (λ e.
-    let (a, b) = both (eqb (n % byte_values) (suc slot)) _ e in
-    let x : n % byte_values ≡ suc slot = eqb-true _ _ a in
-    let y : n / byte_values ≡ rank = eqb-true _ _ b in
-    eq-eqb n (slot + 1 + byte_values * rank) (omega arith))
-
--- which records stand at rank r
-abbrev pub stood : (slot : ℕ) → List Position → (r : ℕ) → List Bool
-stood slot ps r = map_with_index (λ j p. stands_at slot r p) ps
+pub at-most-one : (b : Bool) → (if b then 1 else 0) ≤ 1
+at-most-one true = omega arith
+at-most-one false = omega arith
 
 -- ---- The positions of a table
 
-module _ (stride place count : ℕ) (t : List ℕ) (shape : Shape stride place count (length t)) where
-  pub length-positions : length (positions place (records count stride t)) ≡ count
-  length-positions = length-mapped (λ j r. position_in place r) (records count stride t) ∙ length-records count stride t
+module _ (at : Positions) (t : List ℕ) (shape : Shape at.stride at.place at.count (length t)) where
+  pub length-positions : length (positions_in at t) ≡ at.count
+  length-positions = length-mapped (λ j r. position_in at.place r) (records at.count at.stride t) ∙ length-records at.count at.stride t
 
-  pub at-positions : (j : ℕ) → j < count → get_or (positions place (records count stride t)) j no_queue ≡ position_in (j * stride + place) t
+  pub at-positions : (j : ℕ) → j < at.count → get_or (positions_in at t) j no_queue ≡ position_in (j * at.stride + at.place) t
   at-positions j h =
-      at-mapped (λ j r. position_in place r) (records count stride t) j [] no_queue (omega (arith, length-records count stride t))
-      ∙ ap (position_in place) (at_records count stride t j h) ∙ sym (position-slice (j * stride) stride place t shape.inside)
+      at-mapped (λ j r. position_in at.place r) (records at.count at.stride t) j [] no_queue (omega (arith, length-records at.count at.stride t))
+      ∙ ap (position_in at.place) (at_records at.count at.stride t j h) ∙ sym (position-slice (j * at.stride) at.stride at.place t shape.inside)
 
 -- ---- The ranks of one queue
 
@@ -121,20 +102,18 @@ module _ (ps : List Position) (slot rank : ℕ) {from to : ℕ} (among : Among s
         rest = zero-add _ ∙ count-before (stood slot ps rank) from (λ j lt. stood-outside slot ps among rank j (λ le _. omega arith));
       }
 
-  -- record k was read as a number
-  pub one-more-counted : (number : ℕ) {found k one wanted : ℕ} → Counted ps slot rank from to found k → k < to → slot < slot_count → position_of number ≡ get_or ps k no_queue
-      → wanted ≡ slot + 1 + byte_values * rank → one ≡ (if eqb number wanted then 1 else 0) → one ≤ 1 → Counted ps slot rank from to (found + one) (k + 1)
-  one-more-counted number {found} {k} before h small read w said le =
+  -- one more where record k stands at the rank
+  pub one-more-counted : {found k one : ℕ} → Counted ps slot rank from to found k → k < to → one ≡ (if stands_at slot rank (get_or ps k no_queue) then 1 else 0)
+      → Counted ps slot rank from to (found + one) (k + 1)
+  one-more-counted {found} {k} before h said =
       let lt : k < length ps = omega (arith, among.inside) in
-      let is : eqb number (slot + 1 + byte_values * rank) ≡ get_or (stood slot ps rank) k false =
-      stands-number number slot rank small ∙ ap (stands_at slot rank) read ∙ sym (at-mapped (λ j p. stands_at slot rank p) ps k no_queue false lt) in
+      let is : stands_at slot rank (get_or ps k no_queue) ≡ get_or (stood slot ps rank) k false = sym (at-mapped (λ j p. stands_at slot rank p) ps k no_queue false lt) in
       record {
         start = omega (arith, before.start);
         stop = omega arith;
-        few = omega (arith, before.few);
+        few = omega (arith, before.few, said, at-most-one (stands_at slot rank (get_or ps k no_queue)));
         rest =
-            ap (λ (m : ℕ). found + m + count_true (drop (k + 1) (stood slot ps rank)))
-            (said ∙ ap {B = ℕ} (λ (n : ℕ). if eqb number n then 1 else 0) w ∙ ap {B = ℕ} (λ (b : Bool). if b then 1 else 0) is)
+            ap (λ (m : ℕ). found + m + count_true (drop (k + 1) (stood slot ps rank))) (said ∙ ap {B = ℕ} (λ (b : Bool). if b then 1 else 0) is)
             ∙ count-more (stood slot ps rank) k found (omega (arith, length-mapped (λ j p. stands_at slot rank p) ps)) before.rest;
       }
 
@@ -186,33 +165,33 @@ ranks-wrong slot n ps r h ne =
 -- ---- The rule of one queue, where each record has a rank below the count of its queue
 
 -- what is known of a queue that is looked at: its slot, its record, how much it holds
-pub record Visited (messages : Bool) (qs : List Queue) (ps : List Position) (slot n : ℕ) (q : Queue) : Type 0 where
+pub record Visited (kind : Kind) (qs : List Queue) (ps : List Position) (slot n : ℕ) (q : Queue) : Type 0 where
   pub inside : slot < slot_count
   pub read : get_or qs slot (free_queue 0) ≡ q
-  pub count : n ≡ held messages q
-  pub low : every (λ j p. below_count messages qs p) ps ≡ true
+  pub count : n ≡ held kind q
+  pub low : every (λ j p. below_count kind qs p) ps ≡ true
 
-module _ {messages : Bool} {qs : List Queue} {ps : List Position} {slot n : ℕ} {q : Queue} (v : Visited messages qs ps slot n q) where
+module _ {kind : Kind} {qs : List Queue} {ps : List Position} {slot n : ℕ} {q : Queue} (v : Visited kind qs ps slot n q) where
   rank_below : (j : ℕ) → j < length ps → (get_or ps j no_queue).queue ≡ suc slot → (get_or ps j no_queue).rank < n
   rank_below j h here =
       ⊎_elim (λ z. let x : (get_or ps j no_queue).queue ≡ 0 = eqb-true _ _ z in absurd (omega arith))
       (λ lt.
       let this : pred (get_or ps j no_queue).queue ≡ slot = omega arith in
-      subst (λ (k : ℕ). (get_or ps j no_queue).rank < k) (ap (λ (s : ℕ). held messages (get_or qs s (free_queue 0))) this ∙ ap (held messages) v.read ∙ sym v.count) (ltb-true _ _ lt))
-      (or (eqb (get_or ps j no_queue).queue 0) _ (every-at (λ j p. below_count messages qs p) ps no_queue v.low j h))
+      subst (λ (k : ℕ). (get_or ps j no_queue).rank < k) (ap (λ (s : ℕ). held kind (get_or qs s (free_queue 0))) this ∙ ap (held kind) v.read ∙ sym v.count) (ltb-true _ _ lt))
+      (or (eqb (get_or ps j no_queue).queue 0) _ (every-at (λ j p. below_count kind qs p) ps no_queue v.low j h))
 
-  pub queue-ranked : ((r : ℕ) → r < n → count_true (stood slot ps r) ≡ 1) → queue_ranked messages ps slot q ≡ true
+  pub queue-ranked : ((r : ℕ) → r < n → count_true (stood slot ps r) ≡ 1) → queue_ranked kind ps slot q ≡ true
   queue-ranked h = implying _ _ (λ _. subst (λ (k : ℕ). ranked slot k ps ≡ true) v.count (ranks-hold slot n ps rank_below h))
 
   -- a queue that is free or holds nothing
-  pub queue-skipped : {live : Bool} → live ≡ is_live q → (live && not (eqb n 0)) ≡ false → queue_ranked messages ps slot q ≡ true
+  pub queue-skipped : {live : Bool} → live ≡ is_live q → (live && not (eqb n 0)) ≡ false → queue_ranked kind ps slot q ≡ true
   queue-skipped e f =
       implying _ _
       (λ l.
       let z : n ≡ 0 = eqb-true _ _ (not-false _ (subst (λ (b : Bool). b && not (eqb n 0) ≡ false) (e ∙ l) f)) in
       subst (λ (k : ℕ). ranked slot k ps ≡ true) v.count (ranks-hold slot n ps rank_below (λ r lt. absurd (omega arith))))
 
-  pub queue-broken : {live : Bool} → live ≡ is_live q → (live && not (eqb n 0)) ≡ true → (r : ℕ) → r < n → (count_true (stood slot ps r) ≡ 1 → ⊥) → queue_ranked messages ps slot q ≡ false
+  pub queue-broken : {live : Bool} → live ≡ is_live q → (live && not (eqb n 0)) ≡ true → (r : ℕ) → r < n → (count_true (stood slot ps r) ≡ 1 → ⊥) → queue_ranked kind ps slot q ≡ false
   unfolding ◌implies◌
   queue-broken {live} e t r h ne =
       rw (sym e ∙ (both live (not (eqb n 0)) t).0) (subst (λ (k : ℕ). ranked slot k ps ≡ false) v.count (ranks-wrong slot n ps r h ne))

@@ -10,6 +10,7 @@ use Rattle.ranks.proofs.Lists.{all_cons, all_nil, every-at, every-from, mapped-c
 use Rattle.records.specs.Records.{Queue, State, free_queue, is_live}
 use Rattle.records.specs.Bytes.{decode_queues, decode_pool, decode_tasks, decode}
 use Rattle.specification.specs.Sound.{sound_queue, limits, sound_limits, sound_buffer, sound_ranks, by_priority, sound_task, sound}
+use Rattle.soundness.specs.declared.ranked.Kind.TheVariants.{Messages, Waiters}
 use Rattle.soundness.specs.Parts.{only_queues, only_tasks, pool_positions, task_positions, queue_ranked, queue_in_order}
 use Rattle.soundness.proofs.Cases.{same_truth}
 use Rattle.soundness.proofs.RecordTests.{pool-positions, task-positions}
@@ -40,56 +41,41 @@ module _ (q p t : List ℕ) where
   whole = decode (record { queues = q; pool = p; tasks = t })
 
   ranks-parts : every (λ slot x. is_live x implies sound_ranks whole slot x) (decode_queues q)
-      ≡ (every (queue_ranked true (pool_positions p)) (decode_queues q)
-      && (every (queue_ranked false (task_positions t)) (decode_queues q) && every (queue_in_order (only_tasks t)) (decode_queues q)))
+      ≡ (every (queue_ranked Messages (pool_positions p)) (decode_queues q)
+      && (every (queue_ranked Waiters (task_positions t)) (decode_queues q) && every (queue_in_order (only_tasks t)) (decode_queues q)))
   unfolding decode sound_ranks by_priority
   ranks-parts =
       mapped-all
-      ∙ every-and (queue_ranked true (pool_positions p)) (λ slot x. queue_ranked false (task_positions t) slot x && queue_in_order (only_tasks t) slot x) (decode_queues q) (free_queue 0)
-      ∙ ap (λ (b : Bool). every (queue_ranked true (pool_positions p)) (decode_queues q) && b)
-      (every-and (queue_ranked false (task_positions t)) (queue_in_order (only_tasks t)) (decode_queues q) (free_queue 0))
+      ∙ every-and (queue_ranked Messages (pool_positions p)) (λ slot x. queue_ranked Waiters (task_positions t) slot x && queue_in_order (only_tasks t) slot x) (decode_queues q) (free_queue 0)
+      ∙ ap (λ (b : Bool). every (queue_ranked Messages (pool_positions p)) (decode_queues q) && b)
+      (every-and (queue_ranked Waiters (task_positions t)) (queue_in_order (only_tasks t)) (decode_queues q) (free_queue 0))
     where
       one : (slot : ℕ) (x : Queue) → (is_live x implies sound_ranks whole slot x)
-          ≡ (queue_ranked true (pool_positions p) slot x && (queue_ranked false (task_positions t) slot x && queue_in_order (only_tasks t) slot x))
+          ≡ (queue_ranked Messages (pool_positions p) slot x && (queue_ranked Waiters (task_positions t) slot x && queue_in_order (only_tasks t) slot x))
       one slot x = rw (pool-positions p, task-positions t) (three (is_live x) _ _ _)
 
       mapped-all : every (λ slot x. is_live x implies sound_ranks whole slot x) (decode_queues q)
-          ≡ every (λ slot x. queue_ranked true (pool_positions p) slot x && (queue_ranked false (task_positions t) slot x && queue_in_order (only_tasks t) slot x)) (decode_queues q)
+          ≡ every (λ slot x. queue_ranked Messages (pool_positions p) slot x && (queue_ranked Waiters (task_positions t) slot x && queue_in_order (only_tasks t) slot x)) (decode_queues q)
       mapped-all =
           ap all_true (mapped-cong (λ slot x. is_live x implies sound_ranks whole slot x)
-          (λ slot x. queue_ranked true (pool_positions p) slot x && (queue_ranked false (task_positions t) slot x && queue_in_order (only_tasks t) slot x)) (decode_queues q) (decode_queues q) (free_queue 0) (free_queue 0) true refl (λ i h. one i (get_or (decode_queues q) i (free_queue 0))))
+          (λ slot x. queue_ranked Messages (pool_positions p) slot x && (queue_ranked Waiters (task_positions t) slot x && queue_in_order (only_tasks t) slot x)) (decode_queues q) (decode_queues q) (free_queue 0) (free_queue 0) true refl (λ i h. one i (get_or (decode_queues q) i (free_queue 0))))
 
   -- what the parts of the search say, in its order
-  abbrev pub tests : List Bool
-  tests =
-      every (λ slot x. sound_queue x) (decode_queues q)
-      ∷ sound_limits (only_queues q)
-      ∷ (every (sound_buffer (only_queues q)) (decode_pool p) && every (queue_ranked true (pool_positions p)) (decode_queues q))
-      ∷ (every (sound_task (only_queues q)) (decode_tasks t) && every (queue_ranked false (task_positions t)) (decode_queues q))
-      ∷ every (queue_in_order (only_tasks t)) (decode_queues q)
-      ∷ []
-
-  pub parts : all_true tests ≡ sound whole
+  pub sound-parts : (every (λ slot x. sound_queue x) (decode_queues q)
+      && (sound_limits (only_queues q)
+      && ((every (sound_buffer (only_queues q)) (decode_pool p) && every (queue_ranked Messages (pool_positions p)) (decode_queues q))
+      && ((every (sound_task (only_queues q)) (decode_tasks t) && every (queue_ranked Waiters (task_positions t)) (decode_queues q))
+      && every (queue_in_order (only_tasks t)) (decode_queues q)))))
+      ≡ sound whole
   unfolding sound decode sound_limits limits sound_buffer sound_task
-  parts =
+  sound-parts =
       sym (rw ranks-parts
       (order (every (λ slot x. sound_queue x) (decode_queues q)) (sound_limits (only_queues q)) (every (sound_buffer (only_queues q)) (decode_pool p))
-      (every (queue_ranked true (pool_positions p)) (decode_queues q)) (every (queue_ranked false (task_positions t)) (decode_queues q))
+      (every (queue_ranked Messages (pool_positions p)) (decode_queues q)) (every (queue_ranked Waiters (task_positions t)) (decode_queues q))
       (every (queue_in_order (only_tasks t)) (decode_queues q)) (every (sound_task (only_queues q)) (decode_tasks t))))
     where
       -- the rules of tasks stand before the ranks of waiters
-      order : (a b c d e f g : Bool) → all_true (a ∷ b ∷ c ∷ (d && (e && f)) ∷ g ∷ []) ≡ all_true (a ∷ b ∷ (c && d) ∷ (g && e) ∷ f ∷ [])
+      order : (a b c d e f g : Bool) → all_true (a ∷ b ∷ c ∷ (d && (e && f)) ∷ g ∷ []) ≡ (a && (b && ((c && d) && ((g && e) && f))))
       order a b c d e f g =
           simp (all_cons, all_nil, and-true, and_assoc)
           (ap (λ (x : Bool). a && (b && (c && (d && x)))) (sym (and_assoc e f g) ∙ and_comm (e && f) g))
-
--- ---- A search that ends at the first part that fails: what is left decides
-
-pub go_on : (bs : List Bool) {r a z : Bool} → r ≡ a → r ≡ true → all_true (a ∷ bs) ≡ z → all_true bs ≡ z
-go_on bs e f h = sym (all_cons _ bs ∙ ap (λ (b : Bool). b && all_true bs) (sym e ∙ f)) ∙ h
-
-pub ends : (bs : List Bool) {r a z : Bool} → r ≡ a → r ≡ false → all_true (a ∷ bs) ≡ z → false ≡ z
-ends bs e f h = sym (all_cons _ bs ∙ ap (λ (b : Bool). b && all_true bs) (sym e ∙ f)) ∙ h
-
-pub last : {r a z : Bool} → r ≡ a → all_true (a ∷ []) ≡ z → r ≡ z
-last {a = a} e h = e ∙ sym (all_cons a [] ∙ ap (λ (b : Bool). a && b) all_nil ∙ and-true a) ∙ h

@@ -1,14 +1,16 @@
 -- What the parts of the search look at.
-use Rattle.std.specs.Prelude.{ℕ, suc, pred, ◌/◌, ◌%◌, ◌≤◌, ◌<◌, ◌≡◌, Bool, true, false, List, [], length, get_or, eqb, ltb, ◌&&◌, ◌||◌, if◌then◌else◌}
+use Rattle.std.specs.Prelude.{ℕ, suc, pred, ◌+◌, ◌≤◌, ◌<◌, ◌≡◌, Bool, true, List, [], length, get_or, eqb, ltb, ◌&&◌, ◌||◌}
+use Rattle.ranks.specs.declared.Positions.{Positions}
 use Rattle.ranks.specs.Lists.{◌implies◌, map_with_index, all_true}
-use Rattle.ranks.specs.Position.{Position, no_queue, in_queue}
+use Rattle.ranks.specs.Position.{Position, no_queue, in_queue, stands_at}
 use Rattle.ranks.specs.Table.{records, position_in}
 use Rattle.ranks.specs.Steps.{ranked}
-use Rattle.octets.specs.LittleEndian.{byte_values}
 use Rattle.records.specs.Layout.{buffer_count, buffer_width, buffer_position, task_count, task_width, task_position}
 use Rattle.records.specs.Split.{share_of_slot, first_buffer, share_limit}
 use Rattle.records.specs.Records.{State, Queue, Buffer, Task, free_queue, fresh_task, is_live, has_priority}
 use Rattle.records.specs.Bytes.{decode_queues, decode_tasks}
+use Rattle.soundness.specs.declared.ranked.Kind.{Kind}
+use Rattle.soundness.specs.declared.ranked.Kind.TheVariants.{Messages, Waiters}
 use Rattle.specification.specs.Sound.{used_buffer_rules, sound_buffer, by_priority, task_rules, waiting_task_rules, sound_task}
 
 -- The state that a part looks at: a rule of `Sound.antt` that asks nothing else of the state says the same of the whole.
@@ -30,24 +32,33 @@ pool_positions pool = positions buffer_position (records buffer_count buffer_wid
 abbrev pub task_positions : List ℕ → List Position
 task_positions tasks = positions task_position (records task_count task_width tasks)
 
+-- the positions of a table's records, where they stand
+abbrev pub positions_in : Positions → List ℕ → List Position
+positions_in at bytes = positions at.place (records at.count at.stride bytes)
+
+-- which records stand at a rank of the queue
+abbrev pub stood : (slot : ℕ) → List Position → (rank : ℕ) → List Bool
+stood slot ps rank = map_with_index (λ j p. stands_at slot rank p) ps
+
 -- how many messages the queue holds, or how many tasks wait in it
-abbrev pub held : (messages : Bool) → Queue → ℕ
-held messages q = if messages then q.pending else q.waiters
+abbrev pub held : Kind → Queue → ℕ
+held Messages q = q.pending
+held Waiters q = q.waiters
 
 -- the live queue's messages or waiters carry the ranks below their count, each exactly once
-abbrev pub queue_ranked : (messages : Bool) → List Position → (slot : ℕ) → Queue → Bool
-queue_ranked messages ps slot q = is_live q implies ranked slot (held messages q) ps
+abbrev pub queue_ranked : Kind → List Position → (slot : ℕ) → Queue → Bool
+queue_ranked kind ps slot q = is_live q implies ranked slot (held kind q) ps
 
 -- the rank is below the count of the queue that the position names; a record in no queue has none
-abbrev pub below_count : (messages : Bool) → List Queue → Position → Bool
-below_count messages qs p = eqb p.queue 0 || ltb p.rank (held messages (get_or qs (pred p.queue) (free_queue 0)))
+abbrev pub below_count : Kind → List Queue → Position → Bool
+below_count kind qs p = eqb p.queue 0 || ltb p.rank (held kind (get_or qs (pred p.queue) (free_queue 0)))
 
 -- what is tested of one record: its own rules, and that its rank is below the count
 abbrev pub buffer_tests : State → (b : ℕ) → Buffer → Bool
-buffer_tests s b m = sound_buffer s b m && below_count true s.queues m.position
+buffer_tests s b m = sound_buffer s b m && below_count Messages s.queues m.position
 
 abbrev pub task_tests : State → (t : ℕ) → Task → Bool
-task_tests s t w = sound_task s t w && below_count false s.queues w.position
+task_tests s t w = sound_task s t w && below_count Waiters s.queues w.position
 
 -- the same of a buffer that belongs to queue `q` in the slot, and of a task that names it
 abbrev pub used_buffer_tests : Queue → (slot b : ℕ) → Buffer → Bool
@@ -57,11 +68,13 @@ abbrev pub waiting_task_tests : Queue → (slot t : ℕ) → Task → Bool
 waiting_task_tests q slot t w = all_true (task_rules w) && all_true (waiting_task_rules q slot t w) && ltb w.position.rank q.waiters
 
 -- the first record that can be in the queue of the slot, and how many can be from there on: its share's buffers, or every task
-abbrev pub part_start : (messages : Bool) (slot : ℕ) → ℕ
-part_start messages slot = if messages then first_buffer (share_of_slot slot) else 0
+abbrev pub part_start : Kind → (slot : ℕ) → ℕ
+part_start Messages slot = first_buffer (share_of_slot slot)
+part_start Waiters slot = 0
 
-abbrev pub part_size : (messages : Bool) (count slot : ℕ) → ℕ
-part_size messages count slot = if messages then share_limit (share_of_slot slot) else count
+abbrev pub part_size : Kind → (count slot : ℕ) → ℕ
+part_size Messages count slot = share_limit (share_of_slot slot)
+part_size Waiters count slot = count
 
 -- the records in the queue of the slot are among those before `to`, from `from` on
 pub record Among (slot from to : ℕ) (ps : List Position) : Type 0 where
@@ -69,9 +82,9 @@ pub record Among (slot from to : ℕ) (ps : List Position) : Type 0 where
   pub start : (j : ℕ) → j < length ps → in_queue slot (get_or ps j no_queue) ≡ true → from ≤ j
   pub stop : (j : ℕ) → j < length ps → in_queue slot (get_or ps j no_queue) ≡ true → j < to
 
--- the position that is the number queue + 256 x rank
-abbrev pub position_of : ℕ → Position
-position_of n = record { queue = n % byte_values; rank = n / byte_values }
+-- among those that can be in it
+abbrev pub AmongPart : Kind → (count slot : ℕ) → List Position → Type 0
+AmongPart kind count slot ps = Among slot (part_start kind slot) (part_start kind slot + part_size kind count slot) ps
 
 -- ---- Priorities
 

@@ -1,13 +1,14 @@
 // In a queue with PRIORITY, priorities never fall as ranks rise.
-ghost use Rattle.std.specs.Prelude.{◌≡◌, true, false, ◌<◌, length};
+ghost use Rattle.std.specs.Prelude.{◌≡◌, true, ◌<◌, length};
 ghost use Rattle.ranks.specs.Lists.{every};
 ghost use Rattle.ranks.specs.Steps.{ranked};
 ghost use Rattle.records.specs.Layout.{slot_count, queues_size, task_count, tasks_size};
 ghost use Rattle.records.specs.Bytes.{decode_queues, decode_tasks, decode_queue_at};
 ghost use Rattle.specification.specs.Sound.{by_priority};
+ghost use Rattle.soundness.specs.declared.ranked.Kind.TheVariants.{Waiters};
 ghost use Rattle.soundness.specs.Parts.{only_tasks, task_positions, queue_ranked, queue_in_order, OneAtRank, PrioritiesAtRanks};
 
-use octets::numbers::{BYTE_VALUES, wide};
+use octets::numbers::BYTE_VALUES;
 use records::layout::{SLOT_COUNT, TASK_COUNT};
 use records::queue::read_queue;
 use records::task::read_head;
@@ -18,13 +19,11 @@ fn priorities_by_rank(tasks: &[u8], slot: usize) -> [u8; BYTE_VALUES]
     ensures { PrioritiesAtRanks slot task_count (decode_tasks tasks.now) result }
 {
     let mut by_rank = [0u8; BYTE_VALUES];
-    let mut t = 0;
-    while t < TASK_COUNT {
+    for t in 0..TASK_COUNT {
         let h = read_head(tasks, t);
-        if wide(h.queue) == slot + 1 {
-            by_rank[wide(h.rank)] = h.priority;
+        if usize::from(h.queue) == slot + 1 {
+            by_rank[usize::from(h.rank)] = h.priority;
         }
-        t += 1;
     }
     by_rank
 }
@@ -35,42 +34,25 @@ fn by_priority(tasks: &[u8], slot: usize, n: usize) -> bool
     ensures { result ≡ by_priority (only_tasks tasks.now) slot }
 {
     let by_rank = priorities_by_rank(tasks, slot);
-    let mut good = true;
-    'search: for rank in 1..n {
-        if by_rank[rank] < by_rank[rank - 1] {
-            good = false;
-            break 'search;
-        }
-    }
-    good
+    by_rank[..n].is_sorted()
 }
 
 // The queue in the slot, if it is live and has PRIORITY, has its waiters in order.
 fn queue_in_order(queues: &[u8], tasks: &[u8], slot: usize) -> bool
-    requires { (length queues.now ≡ queues_size) × ((length tasks.now ≡ tasks_size) × ((slot < slot_count) × (queue_ranked false (task_positions tasks.now) slot (decode_queue_at slot queues.now) ≡ true))) }
+    requires { (length queues.now ≡ queues_size) × ((length tasks.now ≡ tasks_size) × ((slot < slot_count) × (queue_ranked Waiters (task_positions tasks.now) slot (decode_queue_at slot queues.now) ≡ true))) }
     ensures { result ≡ queue_in_order (only_tasks tasks.now) slot (decode_queue_at slot queues.now) }
 {
     let q = read_queue(queues, slot);
-    if q.waiters < 2 {
+    if (q.waiters < 2) | !q.is_live() | !q.has_priority() {
         return true;
     }
-    if !(q.is_live() & q.has_priority()) {
-        return true;
-    }
-    by_priority(tasks, slot, wide(q.waiters))
+    by_priority(tasks, slot, usize::from(q.waiters))
 }
 
 // Each live queue with PRIORITY has its waiters in order.
 pub fn priorities_sound(queues: &[u8], tasks: &[u8]) -> bool
-    requires { (length queues.now ≡ queues_size) × ((length tasks.now ≡ tasks_size) × (every (queue_ranked false (task_positions tasks.now)) (decode_queues queues.now) ≡ true)) }
+    requires { (length queues.now ≡ queues_size) × ((length tasks.now ≡ tasks_size) × (every (queue_ranked Waiters (task_positions tasks.now)) (decode_queues queues.now) ≡ true)) }
     ensures { result ≡ every (queue_in_order (only_tasks tasks.now)) (decode_queues queues.now) }
 {
-    let mut good = true;
-    'search: for slot in 0..SLOT_COUNT {
-        if !queue_in_order(queues, tasks, slot) {
-            good = false;
-            break 'search;
-        }
-    }
-    good
+    (0..SLOT_COUNT).all(|slot| queue_in_order(queues, tasks, slot))
 }

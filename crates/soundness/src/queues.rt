@@ -7,7 +7,6 @@ ghost use Rattle.records.specs.Bytes.{decode_queues, decode_queue_at};
 ghost use Rattle.specification.specs.Sound.{live_queue_rules, free_queue_rules, sound_queue, limit_in, limits, sound_limits};
 ghost use Rattle.soundness.specs.Parts.{only_queues};
 
-use octets::numbers::wide;
 use records::layout::{SHARE_COUNT, SLOT_COUNT};
 use records::queue::{
     QueueRecord, attributes_allowed, limit_allowed, max_size_allowed, read_queue,
@@ -17,19 +16,18 @@ use records::shares::{share_limit, share_of_slot};
 fn reserved_zero(reserved: [u8; 4]) -> bool
     ensures { result ≡ all_zero reserved }
 {
-    (reserved[0] == 0) & (reserved[1] == 0) & (reserved[2] == 0) & (reserved[3] == 0)
+    reserved == [0; 4]
 }
 
 fn live_queue_sound(q: QueueRecord) -> bool
     ensures { result ≡ all_true (live_queue_rules q) }
 {
-    let s = q.reserved;
-    attributes_allowed(q.attributes as u32)
-        & limit_allowed(q.limit as u32)
-        & max_size_allowed(q.max_size as u32)
+    attributes_allowed(u32::from(q.attributes))
+        & limit_allowed(u32::from(q.limit))
+        & max_size_allowed(u32::from(q.max_size))
         & (1 <= q.generation)
         & (1 <= q.name)
-        & reserved_zero(s)
+        & reserved_zero(q.reserved)
         & (q.pending <= q.limit)
         & ((q.pending == 0) | (q.waiters == 0))
 }
@@ -37,7 +35,6 @@ fn live_queue_sound(q: QueueRecord) -> bool
 fn free_queue_sound(q: QueueRecord) -> bool
     ensures { result ≡ all_true (free_queue_rules q) }
 {
-    let s = q.reserved;
     (q.live == 0)
         & (q.attributes == 0)
         & (q.limit == 0)
@@ -45,16 +42,17 @@ fn free_queue_sound(q: QueueRecord) -> bool
         & (q.pending == 0)
         & (q.waiters == 0)
         & (q.name == 0)
-        & reserved_zero(s)
+        & reserved_zero(q.reserved)
 }
 
 fn queue_sound(q: QueueRecord) -> bool
     ensures { result ≡ sound_queue q }
 {
     if q.is_live() {
-        return live_queue_sound(q);
+        live_queue_sound(q)
+    } else {
+        free_queue_sound(q)
     }
-    free_queue_sound(q)
 }
 
 // Each queue record is as its rules say.
@@ -62,14 +60,7 @@ pub fn queues_sound(queues: &[u8]) -> bool
     requires { length queues.now ≡ queues_size }
     ensures { result ≡ every (λ slot q. sound_queue q) (decode_queues queues.now) }
 {
-    let mut good = true;
-    'search: for slot in 0..SLOT_COUNT {
-        if !queue_sound(read_queue(queues, slot)) {
-            good = false;
-            break 'search;
-        }
-    }
-    good
+    (0..SLOT_COUNT).all(|slot| queue_sound(read_queue(queues, slot)))
 }
 
 // What the queue in the slot adds to the limits of the share. The limit of a free queue is 0.
@@ -80,8 +71,7 @@ fn limit_in(queues: &[u8], slot: usize, share: usize) -> usize
     if share_of_slot(slot) != share {
         return 0;
     }
-    let q = read_queue(queues, slot);
-    wide(q.limit)
+    usize::from(read_queue(queues, slot).limit)
 }
 
 // The sum of the limits of the share's live queues.
@@ -89,13 +79,9 @@ pub fn share_limits(queues: &[u8], share: usize) -> usize
     requires { (length queues.now ≡ queues_size) × (every (λ slot q. sound_queue q) (decode_queues queues.now) ≡ true) }
     ensures { (result ≡ limits (only_queues queues.now) share) × (result ≤ slot_count * 255) }
 {
-    let mut sum = 0;
-    let mut slot = 0;
-    while slot < SLOT_COUNT {
-        sum += limit_in(queues, slot, share);
-        slot += 1;
-    }
-    sum
+    (0..SLOT_COUNT)
+        .map(|slot| limit_in(queues, slot, share))
+        .sum()
 }
 
 // In each share the limits are at most what it has.
@@ -103,12 +89,5 @@ pub fn limits_sound(queues: &[u8]) -> bool
     requires { (length queues.now ≡ queues_size) × (every (λ slot q. sound_queue q) (decode_queues queues.now) ≡ true) }
     ensures { result ≡ sound_limits (only_queues queues.now) }
 {
-    let mut good = true;
-    'search: for share in 0..SHARE_COUNT {
-        if share_limit(share) < share_limits(queues, share) {
-            good = false;
-            break 'search;
-        }
-    }
-    good
+    (0..SHARE_COUNT).all(|share| share_limits(queues, share) <= share_limit(share))
 }

@@ -14,17 +14,9 @@ pub fn is_sound(queues: &[u8], pool: &[u8], tasks: &[u8]) -> bool
     requires { (length queues.now ≡ queues_size) × ((length pool.now ≡ pool_size) × (length tasks.now ≡ tasks_size)) }
     ensures { result ≡ sound (decode (record { queues = queues.now; pool = pool.now; tasks = tasks.now })) }
 {
-    if !queues_sound(queues) {
-        return false;
-    }
-    if !limits_sound(queues) {
-        return false;
-    }
-    if !pool_sound(queues, pool) {
-        return false;
-    }
-    if !tasks_sound(queues, tasks) {
-        return false;
-    }
-    priorities_sound(queues, tasks)
+    queues_sound(queues)
+        && limits_sound(queues)
+        && pool_sound(queues, pool)
+        && tasks_sound(queues, tasks)
+        && priorities_sound(queues, tasks)
 }

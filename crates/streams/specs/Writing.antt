@@ -3,7 +3,8 @@
 -- bytes go out, or that the system was asked at all: `Writes` and `Says` hold of any bytes, and code that wrote nothing would meet them too.
 -- They name the descriptor and the bytes of a call, so that the definitions above them say which bytes belong to it. That `write` and
 -- `say_failed` ask the system, with that descriptor and those bytes, is read in their bodies, a few lines each, and shown by runs.
-use Rattle.std.specs.Prelude.{ℕ, ◌≡◌, Bool, true, false, List, [], ◌∷◌, pos}
+use Rattle.std.specs.Prelude.{ℕ, ◌≡◌, Bool, true, false, List, [], ◌∷◌, pos, Result, Ok}
+use Rattle.std.specs.declared.io.Error.{Error}
 use Rattle.std.specs.declared.rt.Stdout.{Stdout}
 use Rattle.streams.specs.declared.writing.Output.{Output}
 
@@ -14,14 +15,14 @@ standard_output = record { fd = pos 1 }
 abbrev pub output_of : Stdout → Output
 output_of s = standard_output
 
--- A write of all of `bytes`, of which `done` tells whether it was done. Nothing follows from it.
-pub data Writes (to : Output) (bytes : List ℕ) (done : Bool) : Type 0 where
+-- A write of all of `bytes`, which comes to `done`. Nothing follows from it.
+pub data Writes (to : Output) (bytes : List ℕ) (done : Result (Unit {0}) Error) : Type 0 where
   asked : Writes to bytes done
 
 -- Where answers are asked for, `done` tells of a write of them; where nobody asks, all is done.
-pub data WritesAnswers (to : Output) (answering : Bool) (bytes : List ℕ) (done : Bool) : Type 0 where
+pub data WritesAnswers (to : Output) (answering : Bool) (bytes : List ℕ) (done : Result (Unit {0}) Error) : Type 0 where
   wanted : answering ≡ true → Writes to bytes done → WritesAnswers to answering bytes done
-  unwanted : answering ≡ false → done ≡ true → WritesAnswers to answering bytes done
+  unwanted : answering ≡ false → done ≡ Ok tt → WritesAnswers to answering bytes done
 
 -- what a message names: the bytes of "standard input", "standard output" and "length of the log"
 unfoldable pub input_name : List ℕ

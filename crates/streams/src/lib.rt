@@ -2,5 +2,4 @@
 #![tactic(auto)]
 
 pub mod reading; // reading.rt: a buffer filled by reads
-pub mod system; // system.rt: what the system is asked through
 pub mod writing; // writing.rt: bytes written, and messages

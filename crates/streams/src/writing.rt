@@ -1,21 +1,21 @@
 // Bytes written to a descriptor, and messages.
-ghost use Rattle.std.specs.Prelude.{◌≡◌, ◌≤◌, length};
+ghost use Rattle.std.specs.Prelude.{◌≡◌, ◌≤◌, length, is_some};
 ghost use Rattle.streams.specs.Writing.{standard_output, output_of, Writes, WritesAnswers, Says};
 
-use crate::system::System;
+use std::io;
 use std::io::{Stdout, Write};
 use std::os::fd::AsRawFd;
 
 // A descriptor that is written.
-#[derive(Clone, Copy)]
+#[derive(Clone, Copy, Debug, PartialEq, Eq)]
 pub struct Output {
     pub fd: i32,
 }
 
-pub fn standard_output(system: &System) -> Stdout
+pub fn standard_output(rt: &HostRuntime) -> Stdout
     ensures { output_of result ≡ standard_output }
 {
-    system.stdout()
+    rt.stdout()
 }
 
 // The descriptor that is written.
@@ -25,28 +25,22 @@ pub fn descriptor(to: Stdout) -> Output
     Output { fd: to.as_raw_fd() }
 }
 
-// Writes all of the bytes. Whether it was done.
-pub fn write(system: &System, to: Stdout, bytes: &[u8]) -> bool
+// Writes all of the bytes.
+pub fn write(to: Stdout, bytes: &[u8]) -> io::Result<()>
     ensures { Writes (output_of to) bytes.now result }
 {
     let mut to = to;
-    match to.write_all(bytes) {
-        Ok(()) => true,
-        Err(error) => {
-            system.keep(error);
-            false
-        }
-    }
+    to.write_all(bytes)
 }
 
-// Writes answer records, where they are asked for. Whether all that was asked for is done.
-pub fn write_answers(system: &System, to: Stdout, answering: bool, answers: &[u8]) -> bool
-    ensures { WritesAnswers (output_of to) answering answers.now result }
+// Writes answer records, where they are asked for.
+pub fn write_answers(to: Option<Stdout>, answers: &[u8]) -> io::Result<()>
+    ensures { WritesAnswers standard_output (is_some to) answers.now result }
 {
-    if answering {
-        return write(system, to, answers);
+    match to {
+        Some(to) => write(to, answers),
+        None => Ok(()),
     }
-    true
 }
 
 // The room for the system's words for an error.
@@ -59,22 +53,19 @@ const NUMBER: &[u8] = b" (os error ";
 fn words_end(text: &[u8]) -> usize
     ensures { result ≤ length text.now }
 {
-    let mut end = 0;
-    while end < text.len() && text[end] != 0 && !text[end..].starts_with(NUMBER) {
-        end += 1;
-    }
-    end
+    (0..text.len())
+        .find(|&i| text[i] == 0 || text[i..].starts_with(NUMBER))
+        .unwrap_or(text.len())
 }
 
 // A line on standard error: what failed, and the system's words for the error.
-pub fn say_failed(system: &System, what: &[u8])
+pub fn say_failed(rt: &HostRuntime, what: &[u8], error: io::Error)
     ensures { Says what.now }
 {
-    let error = system.last_error();
     let mut words = [0u8; WORDS_ROOM];
     let _ = write!(&mut words[..], "{error}");
     let end = words_end(&words);
-    let mut to = system.stderr();
+    let mut to = rt.stderr();
     let _ = to.write_all(what);
     let _ = to.write_all(b": ");
     let _ = to.write_all(&words[..end]);

@@ -1,4 +1,3 @@
-pub mod Folds
 pub mod InQueue
 pub mod LeastFolds
 pub mod MaskFolds

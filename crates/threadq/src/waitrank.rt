@@ -1,5 +1,5 @@
 // The rank at which a task begins to wait.
-ghost use Rattle.std.specs.Prelude.{◌≡◌, ◌<◌, min, length};
+ghost use Rattle.std.specs.Prelude.{◌≡◌, ◌<◌, length};
 ghost use Rattle.records.specs.Layout.{slot_count, task_count, tasks_size};
 ghost use Rattle.records.specs.Bytes.{decode_tasks, decode_task_at};
 ghost use Rattle.specification.specs.Receive.{rank_behind, priority_rank, rank_for};
@@ -8,19 +8,13 @@ use records::layout::TASK_COUNT;
 use records::queue::QueueRecord;
 use records::task::read_head;
 
-fn smaller(a: u8, b: u8) -> u8
-    ensures { result ≡ min a b }
-{
-    if a <= b { a } else { b }
-}
-
 // The rank of task t, where it waits in the queue of the slot with a greater number than the priority; else the rear.
 fn rank_behind(tasks: &[u8], t: usize, slot: usize, priority: u8, rear: u8) -> u8
     requires { (t < task_count) × ((slot < slot_count) × (length tasks.now ≡ tasks_size)) }
     ensures { result ≡ rank_behind slot priority rear (decode_task_at t tasks.now) }
 {
     let h = read_head(tasks, t);
-    if (h.queue == (slot + 1) as u8) & (priority < h.priority) {
+    if (usize::from(h.queue) == slot + 1) & (priority < h.priority) {
         h.rank
     } else {
         rear
@@ -32,13 +26,10 @@ fn priority_rank(tasks: &[u8], slot: usize, priority: u8, rear: u8) -> u8
     requires { (slot < slot_count) × (length tasks.now ≡ tasks_size) }
     ensures { result ≡ priority_rank slot priority rear (decode_tasks tasks.now) }
 {
-    let mut least = rear;
-    let mut t = TASK_COUNT;
-    while t > 0 {
-        t -= 1;
-        least = smaller(rank_behind(tasks, t, slot, priority, rear), least);
-    }
-    least
+    (0..TASK_COUNT).fold(
+        rear,
+        |least, t| least.min(rank_behind(tasks, t, slot, priority, rear)),
+    )
 }
 
 // "at the rear, or with PRIORITY behind all of equal or smaller number"

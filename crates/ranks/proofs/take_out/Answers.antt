@@ -1,10 +1,10 @@
 -- `ranks::take_out` meets its contract. Assumes nothing.
-use mathlib.Core.Bool.{false≢true}
-use borrow.Author.Rules.{rules}
+use Rattle.std.proofs.Common.{rules}
+use Rattle.ranks.specs.Steps.{taken_out}
+use Rattle.ranks.proofs.Table.{all-moved}
 use Rattle.ranks.proofs.take_out.Goals as goal
 
-pub shift-requires : goal.shift-requires
-shift-requires c = (c.requires.0, (c.requires.1, λ e. absurd (false≢true e)))
-
 pub returns : goal.returns
-returns c = search rules
+returns c =
+    let a = c.args in
+    all-moved a.positions.stride a.positions.place a.positions.count (taken_out a.i a.slot a.rank) a.t.now c.shift.new.t (λ j h. let (p, r, w) = c.shift.ensures j h in (p, search rules, w))

@@ -1,5 +1,4 @@
 -- `coremsg::messages::clear_messages` meets its contract. Assumes nothing.
-use Prim.Native.Nat.{◌-◌}
 use Rattle.records.specs.Layout.{buffer_count, buffer_width}
 use Rattle.records.specs.Records.{free_buffer}
 use Rattle.records.specs.Bytes.{decode_buffer}
@@ -8,6 +7,3 @@ use Rattle.coremsg.proofs.messages.clear_messages.Given as goal
 
 abbrev pub invariant-loop-b : goal.invariant-loop-b
 invariant-loop-b l = ChangedIn decode_buffer (λ x. x.position) buffer_count buffer_width l.slot (λ _. free_buffer) l.initial.pool l.pool l.b
-
-abbrev pub decreases-loop-b : goal.decreases-loop-b
-decreases-loop-b l = buffer_count - l.b

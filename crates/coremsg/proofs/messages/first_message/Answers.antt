@@ -1,5 +1,6 @@
 -- `coremsg::messages::first_message` meets its contract. Assumes nothing.
-use mathlib.Core.Path.{refl, ◌∙◌}
+use mathlib.Core.Path.{refl, ap, ◌∙◌}
+use Rattle.ranks.specs.Lists.{found_below}
 use Rattle.records.specs.Layout.{buffer_count, buffer_position, buffer_width}
 use Rattle.records.specs.Records.{free_buffer}
 use Rattle.records.specs.Bytes.{decode_buffer}
@@ -10,4 +11,4 @@ pub returns : goal.returns
 unfolding decode_buffer
 returns c =
     let a = c.args in
-    c.first.ensures ∙ first-decoded decode_buffer (λ m. m.position) buffer_position buffer_count buffer_width a.slot a.pool.now free_buffer (λ r. refl)
+    c.first.ensures ∙ ap (found_below buffer_count) (first-decoded decode_buffer (λ m. m.position) buffer_position buffer_count buffer_width a.slot a.pool.now free_buffer (λ r. refl))

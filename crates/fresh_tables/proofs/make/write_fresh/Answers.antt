@@ -12,17 +12,11 @@ use Rattle.fresh_tables.proofs.make.write_fresh.Goals as goal
 sizes : (s : Start) → (length s.args.queues.now ≡ queues_size) × (length s.args.pool.now ≡ pool_size) × (length s.args.tasks.now ≡ tasks_size)
 sizes s = let a = s.args in lengths (tables a.queues.now a.pool.now a.tasks.now) s.requires.0
 
-pub copy_into-requires : goal.copy_into-requires
-copy_into-requires c = omega (arith, sizes (goal.at.copy_into-requires c).Start)
-
-pub copy_into-requires-2 : goal.copy_into-requires-2
-copy_into-requires-2 c = omega (arith, sizes (goal.at.copy_into-requires-2 c).Start)
-
 pub make_tasks-requires : goal.make_tasks-requires
 make_tasks-requires c = ((sizes (goal.at.make_tasks-requires c).Start).2, c.requires.1)
 
 pub returns : goal.returns
 returns c =
     let a = c.args in
-    fresh-written a.queues.now a.pool.now a.tasks.now a.priorities.now c.copy_into.new.t c.copy_into-2.new.t c.make_tasks.new.tasks
-    c.requires.0 c.copy_into.ensures c.copy_into-2.ensures c.make_tasks.ensures c.make_tasks.auto.tasks (λ i. omega (arith, c.slice_known-6-1.given i))
+    fresh-written a.queues.now a.pool.now a.tasks.now a.priorities.now c.fill.new.self c.fill-2.new.self c.make_tasks.new.tasks
+    c.requires.0 (c.fill.ensures.after (λ y e. e)) (c.fill-2.ensures.after (λ y e. e)) c.make_tasks.ensures c.make_tasks.auto.tasks (λ i. omega (arith, c.type_inv.tasks i))

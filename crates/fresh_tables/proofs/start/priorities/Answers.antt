@@ -1,31 +1,16 @@
 -- `fresh_tables::start::priorities` meets its contract. Assumes nothing.
+use Rattle.std.proofs.Common.{rules, arith, sym, ◌≡◌, ◌+◌, ◌∙◌, ◌<◌, get_or}
+use Rattle.std.proofs.lemmas.Grind.{same_number_lists}
+use Rattle.ranks.proofs.Lists.{length-range, at-range}
 use Rattle.records.specs.Layout.{task_count}
-use borrow.Author.Rules.{rules}
-use mathlib.Core.Path.{◌≡◌, refl, ap, ◌∙◌}
-use native.Mathlib.Numerals.{add-one}
-use native.Mathlib.Omega.{arith}
-use lib.ListN.{length-set}
-use Rattle.ranks.specs.Lists.{numbers_from}
-use Rattle.fresh_tables.proofs.start.priorities.Invariants.{prioritized}
 use Rattle.fresh_tables.proofs.start.priorities.Goals as goal
-
--- of all tasks
-all-prioritized : prioritized task_count ≡ numbers_from 1 task_count
-unfolding prioritized numbers_from
-all-prioritized = refl
-
-pub loop-t-init : goal.loop-t-init
-unfolding prioritized
-loop-t-init c = search rules
-
-pub loop-t-preserved : goal.loop-t-preserved
-unfolding prioritized
-loop-t-preserved c =
-    let v = c.loop-t in
-    (search rules, (rw (v.invariant.1.0, add-one) refl, simp length-set v.invariant.1.1))
 
 pub returns : goal.returns
 returns c =
-    let v = c.loop-t in
-    let e : v.t ≡ task_count = omega arith in
-    v.invariant.1.0 ∙ ap prioritized e ∙ all-prioritized
+    let made = c.from_fn.ensures.items in
+    same_number_lists _ _ (omega (arith, made.long, length-range 1 task_count))
+    (λ t lt.
+    let t_below : t < task_count = omega (arith, made.long) in
+    let call = made.at t 0 t_below in
+    let one : get_or c.from_fn.result t 0 ≡ 1 + t = search (rules, call.2) in
+    one ∙ sym (at-range 1 task_count t 0 t_below))

@@ -1,66 +1,19 @@
 -- `logio::agreeing::agreeing`. Assumes nothing.
-use borrow.Author.Tests.{eq-eqb, ne_eqb, ltb-true, ltb-false}
-use native.Mathlib.Numerals.{add-one}
-use native.Mathlib.Omega.{arith}
-use Prim.Native.Nat.{ℕ, suc, ◌+◌, ◌≤◌, ◌<◌}
-use mathlib.Core.Path.{◌≡◌, refl, sym, ◌∙◌}
-use mathlib.Core.List.{List, [], ◌∷◌}
-use lib.ListN.{length, get_or, drop, drop_of_length-le}
-use lib.Seq.{drop-cons}
-use Rattle.logio.specs.Agreeing.{agreement}
+use Rattle.std.proofs.Common.{ℕ, sym, ◌∙◌, rules, tests, zip}
+use Rattle.std.proofs.lemmas.Iterator.{YieldsList-from_slice, YieldsList-from_zip}
+use Rattle.std.proofs.lemmas.Iterator.Consumers.{count_from_yields_List, YieldsList-at}
+use Rattle.std.proofs.lemmas.Iterator.Search.{YieldsList-from_take_while}
+use Rattle.std.proofs.lemmas.List.Folds.{length-prefix_len}
+use lib.Dec.{eqb}
+use Rattle.logio.proofs.Agreements.{agreed}
 use Rattle.logio.proofs.agreeing.agreeing.Goals as goal
 
-none_left : (xs : List ℕ) → agreement xs [] ≡ 0
-unfolding agreement
-none_left [] = refl
-none_left (x ∷ xs) = refl
-
--- the two strings agree below place i
-module _ (xs ys : List ℕ) (i : ℕ) (inv : agreement xs ys ≡ i + agreement (drop i xs) (drop i ys)) where
-  at_place : i < length xs → i < length ys → agreement xs ys ≡ i + agreement (get_or xs i 0 ∷ drop (suc i) xs) (get_or ys i 0 ∷ drop (suc i) ys)
-  at_place h k = inv ∙ rw (drop-cons xs i 0 h, drop-cons ys i 0 k) refl
-
-  one_more : i < length xs → i < length ys → get_or xs i 0 ≡ get_or ys i 0 → agreement xs ys ≡ i + 1 + agreement (drop (i + 1) xs) (drop (i + 1) ys)
-  unfolding agreement
-  one_more h k e = at_place h k ∙ rw (eq-eqb _ _ e, add-one) (omega arith)
-
-  here : i < length xs → i < length ys → (get_or xs i 0 ≡ get_or ys i 0 → ⊥) → i ≡ agreement xs ys
-  unfolding agreement
-  here h k e = sym (at_place h k ∙ rw (ne_eqb _ _ e) (omega arith))
-
-  first_ends : length xs ≤ i → i ≡ agreement xs ys
-  unfolding agreement
-  first_ends h = sym (inv ∙ rw (drop_of_length-le xs h) (omega arith))
-
-  second-ends : length ys ≤ i → i ≡ agreement xs ys
-  second-ends h = sym (inv ∙ rw (drop_of_length-le ys h, none_left (drop i xs)) (omega arith))
-
-pub loop-i-init : goal.loop-i-init
-loop-i-init c = (omega arith, (omega arith, omega arith))
-
-pub bounds-b-i : goal.bounds-b-i
-bounds-b-i c = omega (arith, ltb-true)
-
-pub returns-then-a-i : goal.returns-then-a-i
-returns-then-a-i c =
-    let a = c.args in
-    let v = c.loop-i in
-    here a.a.now a.b.now v.i v.invariant.1.1 (omega (arith, ltb-true, ltb-false)) (omega (arith, ltb-true, ltb-false)) c.if-a-i.true
-
-pub loop-i-preserved : goal.loop-i-preserved
-loop-i-preserved c =
-    let a = c.args in
-    let v = c.loop-i in
-    (omega (arith, ltb-true, ltb-false), (omega (arith, ltb-true, ltb-false), one_more a.a.now a.b.now v.i v.invariant.1.1 (omega (arith, ltb-true, ltb-false)) (omega (arith, ltb-true, ltb-false)) c.if-a-i.false))
-
-pub returns-else-i-b : goal.returns-else-i-b
-returns-else-i-b c =
-    let a = c.args in
-    let v = c.loop-i in
-    second-ends a.a.now a.b.now v.i v.invariant.1.1 (omega (arith, ltb-true, ltb-false))
-
-pub returns-after-loop-i : goal.returns-after-loop-i
-returns-after-loop-i c =
-    let a = c.args in
-    let v = c.loop-i in
-    first_ends a.a.now a.b.now v.i v.invariant.1.1 (omega (arith, ltb-true, ltb-false))
+pub returns : goal.returns
+returns c =
+    let a = c.args.a.now in
+    let b = c.args.b.now in
+    let pairs = YieldsList-from_zip (YieldsList-at c.zip.ensures.first (YieldsList-from_slice a cc)) (YieldsList-from_slice b c.zip.ensures.second.0) in
+    count_from_yields_List c.take_while.result _ c.count.ensures.ran
+    (YieldsList-from_take_while _ (λ (p : ℕ × ℕ). eqb p.0 p.1) (YieldsList-at c.take_while.ensures.source pairs) c.take_while.ensures.closure c.take_while.ensures.done (λ x same q called. search (rules, tests)))
+    ∙ length-prefix_len (λ (p : ℕ × ℕ). eqb p.0 p.1) (zip a b)
+    ∙ sym (agreed a b)

@@ -1,31 +1,24 @@
 -- `logio::input::replay_input`. Assumes nothing.
-use borrow.Author.Rules.{rules}
-use native.Mathlib.Omega.{arith}
-use mathlib.Core.Path.{◌≡◌, refl, sym, ◌∙◌}
-use Prim.Native.Nat.{suc, ◌-◌}
+use Rattle.std.proofs.Common.{◌≡◌, ◌+◌, ◌-◌, ◌<◌, ℕ, suc, not, refl, sym, ap, ◌∙◌, arith, rules}
 use Rattle.logio.specs.Turns.{last, more, spent}
 use Rattle.logio.proofs.Blocks.{in_turns}
 use Rattle.logio.proofs.input.replay_input.Goals as goal
 
-pub loop-turns-init : goal.loop-turns-init
-loop-turns-init c = ((λ e left h. h), (refl, (refl, refl)))
+fewer : (counter : ℕ) → counter < 18446744073709551615 → 18446744073709551615 - counter ≡ suc (18446744073709551615 - (counter + 1))
+fewer counter h = omega arith
 
-pub returns-then-not-goes_on : goal.returns-then-not-goes_on
-returns-then-not-goes_on c =
-    let v = c.loop-turns in
-    let fewer : v.turns ≡ suc (v.turns - 1) = omega (arith, c.loop-turns-test.true) in
-    let ends = sym c.goes_on.ensures ∙ c.if-not-goes_on.true in
-    in_turns (v.invariant.0 _ _ (last fewer c.turn-e.ensures ends))
+pub returns-in_err-n : goal.returns-in_err-n
+returns-in_err-n c = in_turns (c.loop.invariant.0 _ _ (last (fewer c.loop.counter c.loop-test.true) c.in_err-n.ensures refl (search rules)))
 
-pub loop-turns-preserved : goal.loop-turns-preserved
-loop-turns-preserved c =
-    let v = c.loop-turns in
-    let goes = sym c.goes_on.ensures ∙ c.if-not-goes_on.false in
-    let fewer : v.turns ≡ suc (v.turns - 1) = omega (arith, c.loop-turns-test.true) in
-    ((λ e left h. v.invariant.0 e left (more fewer c.turn-e.ensures goes h)), search rules)
+pub returns-then-is_last : goal.returns-then-is_last
+returns-then-is_last c =
+    let ended = ap not (sym c.is_last.ensures ∙ c.if-is_last.true) in
+    in_turns (c.loop.invariant.0 _ _ (last (fewer c.loop.counter c.loop-test.true) c.in_ok-n.ensures ended refl))
+
+pub loop-preserved : goal.loop-preserved
+loop-preserved c =
+    let goes = ap not (sym c.is_last.ensures ∙ c.if-is_last.false) in
+    (λ ending left rest. c.loop.invariant.0 ending left (more (fewer c.loop.counter c.loop-test.true) c.in_ok-n.ensures goes rest), search rules, search rules, search rules)
 
 pub returns : goal.returns
-returns c =
-    let v = c.loop-turns in
-    let none : v.turns ≡ 0 = omega arith in
-    in_turns (v.invariant.0 _ _ (spent none refl))
+returns c = in_turns (c.loop.invariant.0 _ _ (spent (omega (arith, c.loop-test.false)) refl))

@@ -1,7 +1,12 @@
 -- `octets::numbers::read_u16` meets its contract. Assumes nothing.
-use native.Mathlib.Omega.{arith}
-use Rattle.octets.proofs.NumberBytes
+use mathlib.Core.Path.{ap, ◌∙◌}
+use lib.ListN.{length}
+use Rattle.ranks.proofs.Table.{length-slice}
+use Rattle.octets.specs.LittleEndian.{from_little_endian}
+use Rattle.octets.proofs.NumberBytes.{from-two}
 use Rattle.octets.proofs.numbers.read_u16.Goals as goal
 
 pub returns : goal.returns
-returns c = omega (arith, NumberBytes.half-number c.args.t.now c.args.at c.requires)
+returns c =
+    let bytes = c.bytes_at in
+    c.from_le_bytes.ensures ∙ from-two bytes.result (ap length bytes.ensures ∙ length-slice c.args.at 2 c.args.t.now c.requires) ∙ ap from_little_endian bytes.ensures

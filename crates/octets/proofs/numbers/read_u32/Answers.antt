@@ -1,8 +1,12 @@
 -- `octets::numbers::read_u32` meets its contract. Assumes nothing.
-use native.Mathlib.Omega.{arith}
-use Rattle.octets.proofs.NumberBytes
+use mathlib.Core.Path.{ap, ◌∙◌}
+use lib.ListN.{length}
+use Rattle.ranks.proofs.Table.{length-slice}
+use Rattle.octets.specs.LittleEndian.{from_little_endian}
+use Rattle.octets.proofs.NumberBytes.{from-four}
 use Rattle.octets.proofs.numbers.read_u32.Goals as goal
 
 pub returns : goal.returns
 returns c =
-    omega (arith, NumberBytes.number-add c.args.at 2 2 c.args.t.now (omega arith), c.read_u16-low.ensures, c.read_u16-high.ensures)
+    let bytes = c.bytes_at in
+    c.from_le_bytes.ensures ∙ from-four bytes.result (ap length bytes.ensures ∙ length-slice c.args.at 4 c.args.t.now c.requires) ∙ ap from_little_endian bytes.ensures

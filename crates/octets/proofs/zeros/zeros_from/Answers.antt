@@ -1,26 +1,23 @@
 -- `octets::zeros::zeros_from` meets its contract. Assumes nothing.
-use Prim.Native.Nat.{◌-◌}
 use native.Mathlib.Omega.{arith}
-use mathlib.Core.Path.{refl, ap, ◌∙◌}
-use mathlib.Core.Bool.{Bool, ◌&&◌}
-use lib.ListN.{length}
-use Rattle.octets.proofs.ZeroBytes.{zeros-more, zeros-overlap, zeros-to-end}
-use borrow.Author.Rules.{rules}
+use Prim.Native.Nat.{◌+◌}
+use mathlib.Core.Path.{sym, ◌∙◌}
+use Rattle.octets.proofs.ZeroBytes.{zeros-more, zeros-stop, zeros-between, zeros-to-end}
+use Rattle.octets.proofs.zeros.zeros_from.Goals.{else-loop-at-test, then-loop-at-test+else-not-zeros_at+else-last-at-gt32}
 use Rattle.octets.proofs.zeros.zeros_from.Goals as goal
 
-pub returns-then-t-lt32 : goal.returns-then-t-lt32
-returns-then-t-lt32 c = c.single_zeros_from.ensures
+pub returns-then-not-zeros_at : goal.returns-then-not-zeros_at
+returns-then-not-zeros_at c = sym (zeros-stop c.args.t.now c.loop-at.at 32 (sym c.zeros_at.ensures ∙ c.if-not-zeros_at.true)) ∙ c.loop-at.invariant
 
-pub returns-then-last-from : goal.returns-then-last-from
-returns-then-last-from c = c.single_zeros_from-then-last-from.ensures
-
-pub loop-i-init : goal.loop-i-init
-loop-i-init c = (search rules, refl)
-
-pub loop-i-preserved : goal.loop-i-preserved
-loop-i-preserved c = (search rules, zeros-more c.args.t.now c.loop-i.i c.loop-i.ok c.loop-i.invariant.1 32 _ c.block_of_zeros-ok.ensures)
+pub loop-at-preserved : goal.loop-at-preserved
+loop-at-preserved c = zeros-more c.args.t.now c.loop-at.at 32 (sym c.zeros_at.ensures ∙ c.if-not-zeros_at.false) ∙ c.loop-at.invariant
 
 pub returns : goal.returns
 returns c =
-    ap (λ (b : Bool). c.loop-i.ok && b) (c.block_of_zeros.ensures ∙ zeros-to-end c.args.t.now 32 (omega arith))
-    ∙ zeros-overlap c.args.t.now c.loop-i.i c.loop-i.ok c.loop-i.invariant.1 c.args.from (length c.args.t.now - 32) (omega arith) (omega arith) refl
+    let t = c.args.t.now in
+    let last = c.saturating_sub-last.result in
+    c.zeros_at-2.ensures ∙ zeros-to-end t last 32 (omega arith)
+    ∙ (elim c.loop-at-test.branch [
+      | else-loop-at-test w ↦ zeros-between t c.args.from last c.loop-at.at (omega arith) (omega arith) c.loop-at.invariant
+      | then-loop-at-test+else-not-zeros_at+else-last-at-gt32 w ↦ zeros-between t c.args.from last (c.loop-at.at + 32) (omega arith) (omega arith) (zeros-more t c.loop-at.at 32 (sym w.zeros_at.ensures ∙ w.if-not-zeros_at.false) ∙ c.loop-at.invariant)
+    ])

@@ -1,5 +1,6 @@
 -- `records::buffer::clear_buffer` meets its contract. Assumes nothing.
-use mathlib.Core.Path.{refl}
+use Rattle.std.proofs.Common.{rules}
+use mathlib.Core.Path.{◌≡◌, ap, ◌∙◌}
 use lib.ListN.{replicate}
 use Rattle.records.specs.Layout.{buffer_count, buffer_width}
 use Rattle.records.specs.Records.{free_buffer}
@@ -10,5 +11,5 @@ use Rattle.records.proofs.buffer.clear_buffer.Goals as goal
 pub returns : goal.returns
 returns c =
     let a = c.args in
-    let k = c.copy_into in
-    Writing.table-written decode_buffer buffer_count buffer_width a.pool.now k.new.t (replicate buffer_width 0) a.b free_buffer c.requires.1 c.requires.0 refl Writing.zeros-free k.ensures
+    let zeros : c.fill.new.self ≡ replicate buffer_width 0 = Writing.record-filled buffer_count buffer_width a.pool.now c.fill.new.self a.b 0 c.requires.0 c.requires.1 (c.fill.ensures.after (λ y same. search rules)) in
+    Writing.record-lent decode_buffer buffer_count buffer_width free_buffer a.pool.now c.fill.new.self a.b (λ _. free_buffer) c.requires.0 c.requires.1 c.fill.ensures.len (ap decode_buffer zeros ∙ Writing.zeros-free)

@@ -16,8 +16,8 @@ four-spare s = length_unmapped ℕ s.args.q.reserved 4 (search rules)
 pub returns : goal.returns
 unfolding encode_queue to_little_endian
 returns c =
-    let g = c.bytes_of_u16-g.ensures in
-    let n = c.bytes_of_u32-n.ensures in
+    let g = c.bytes_of_u16.ensures in
+    let n = c.bytes_of_u32.ensures in
     let q = c.args.q in
     let fit : QueueEncodable q = record { generation = g.1; name = n.1; reserved = four-spare (goal.at.returns c).Start } in
     (rw (g.0, n.0, ← NumberBytes.all-four q.reserved (four-spare (goal.at.returns c).Start)), (decode-encode-queue q fit, length-queue q fit))

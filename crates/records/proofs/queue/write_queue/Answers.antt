@@ -10,6 +10,6 @@ use Rattle.records.proofs.queue.write_queue.Goals as goal
 pub returns : goal.returns
 returns c =
     let a = c.args in
-    let b = c.encode_queue-b.ensures in
+    let b = c.encode_queue.ensures in
     Writing.table-written decode_queue slot_count queue_width a.queues.now c.copy_into.new.t (encode_queue a.q) a.slot a.q c.requires.0 c.requires.1 b.1.1 b.1.0
     (c.copy_into.ensures ∙ ap (spliced a.queues.now (a.slot * queue_width)) b.0)

@@ -13,4 +13,4 @@ two-reserved s = length_unmapped ℕ s.args.h.reserved 2 (search rules)
 
 pub returns : goal.returns
 returns c =
-    ap decode_task c.copy_into.ensures ∙ Writing.head-written c.args.h c.bytes_of_u32-n.result c.args.r.now (two-reserved (goal.at.returns c).Start) c.bytes_of_u32-n.ensures
+    ap decode_task c.copy_into.ensures ∙ Writing.head-written c.args.h c.bytes_of_u32.result c.args.r.now (two-reserved (goal.at.returns c).Start) c.bytes_of_u32.ensures

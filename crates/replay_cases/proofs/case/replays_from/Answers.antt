@@ -1,8 +1,7 @@
 -- `replay_cases::case::replays_from`. Assumes nothing.
-use Rattle.std.proofs.Common.{refl}
+use Rattle.replay_cases.specs.StoredCase.{tables_in}
 use Rattle.replay_cases.proofs.case.replays_from.Goals as goal
 
 pub returns : goal.returns
-returns c =
-    let tasks = c.tasks_in-tasks in
-    rw (c.replays_to.ensures, tasks.ensures, c.pool_in-pool.ensures, c.queues_in-queues.ensures) refl
+unfolding tables_in
+returns c = rw (c.bytes_at-queues.ensures, c.bytes_at-pool.ensures, c.bytes_at-tasks.ensures) at c.replays_to.ensures

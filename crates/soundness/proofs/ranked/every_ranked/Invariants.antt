@@ -1,16 +1,15 @@
 -- `soundness::ranked::every_ranked` meets its contract. Assumes nothing.
 use Prim.Native.Nat.{◌-◌}
-use Rattle.ranks.specs.Table.{records}
 use Rattle.ranks.proofs.Searches.{AllBelow}
 use Rattle.records.specs.Layout.{slot_count}
 use Rattle.records.specs.Bytes.{decode_queues}
-use Rattle.soundness.specs.Parts.{positions, queue_ranked}
+use Rattle.soundness.specs.Parts.{positions_in, queue_ranked}
 use Rattle.soundness.proofs.Ranks.{Counted, RankedUpTo}
 use Rattle.soundness.proofs.ranked.every_ranked.Given as goal
 
 abbrev pub invariant-records : goal.invariant-records
 invariant-records l =
-    Counted (positions l.place (records l.count l.stride l.t)) l.slot l.rank l.from l.to l.found l.k
+    Counted (positions_in l.positions l.t) l.slot l.rank l.from l.to l.found l.k
 
 abbrev pub decreases-records : goal.decreases-records
 decreases-records l =
@@ -18,7 +17,7 @@ decreases-records l =
 
 abbrev pub invariant-ranks : goal.invariant-ranks
 invariant-ranks l =
-    RankedUpTo (positions l.place (records l.count l.stride l.t)) l.slot l.n l.good l.rank
+    RankedUpTo (positions_in l.positions l.t) l.slot l.n l.good l.rank
 
 abbrev pub decreases-ranks : goal.decreases-ranks
 decreases-ranks l =
@@ -26,7 +25,7 @@ decreases-ranks l =
 
 abbrev pub invariant-search : goal.invariant-search
 invariant-search l =
-    AllBelow (queue_ranked l.messages (positions l.place (records l.count l.stride l.t))) (decode_queues l.queues) slot_count l.good l.slot
+    AllBelow (queue_ranked l.kind (positions_in l.positions l.t)) (decode_queues l.queues) slot_count l.good l.slot
 
 abbrev pub decreases-search : goal.decreases-search
 decreases-search l =

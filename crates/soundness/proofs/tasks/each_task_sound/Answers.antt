@@ -1,20 +1,21 @@
 -- `soundness::tasks::each_task_sound` meets its contract. Assumes nothing.
-use native.Mathlib.Omega.{arith}
-use Rattle.ranks.proofs.Searches.{all-below, one-more-passes, all_pass, one-fails}
-use Rattle.records.proofs.Writing.{length-decoded, at-lent}
+use Rattle.std.proofs.Common.{rules, arith, ◌<◌, ◌≡◌, length}
+use Rattle.std.proofs.lemmas.Iterator.Adapters.{serves_from_places}
 use Rattle.records.specs.Layout.{task_count, task_width}
 use Rattle.records.specs.Records.{fresh_task}
 use Rattle.records.specs.Bytes.{decode_task}
+use Rattle.soundness.specs.Parts.{only_queues, task_tests}
+use Rattle.soundness.proofs.EachRecord.{yields-records, record-of, every-chunk}
 use Rattle.soundness.proofs.tasks.each_task_sound.Goals as goal
 
-pub search-init : goal.search-init
-search-init c = all-below
+pub all-requires-clause-callable : goal.all-requires-clause-callable
+all-requires-clause-callable c =
+    let t = c.args.tasks.now in
+    serves_from_places (yields-records task_count task_width t (omega arith) c.requires.1 c.enumerate.result (cc) (cc) (cc)) (λ x q k. search rules)
+    (λ x i lt e. let h : (x.0 < task_count) × (length x.1.now ≡ task_width) = record-of task_count task_width t c.requires.1 _ i lt e in search rules)
 
-pub search-preserved : goal.search-preserved
-search-preserved c = one-more-passes (fresh_task 1) (length-decoded _ _ _ _) c.search.invariant (omega arith) (at-lent decode_task task_count task_width _ _ (omega arith) _) c.task_sound.ensures c.if-not-task_sound.false
-
-pub returns-after-search : goal.returns-after-search
-returns-after-search c = all_pass (fresh_task 1) (length-decoded _ _ _ _) c.search.invariant (omega arith)
-
-pub returns-then-not-task_sound : goal.returns-then-not-task_sound
-returns-then-not-task_sound c = one-fails (fresh_task 1) (length-decoded _ _ _ _) c.search.invariant (omega arith) (at-lent decode_task task_count task_width _ _ (omega arith) _) c.task_sound.ensures c.if-not-task_sound.true
+pub returns : goal.returns
+returns c =
+    let t = c.args.tasks.now in
+    every-chunk (task_tests (only_queues c.args.queues.now)) decode_task task_count task_width t (fresh_task 1) _ _ _ _ c.all.ensures.ran
+    (yields-records task_count task_width t (omega arith) c.requires.1 c.enumerate.result (cc) (cc) (cc)) (λ x b q k. search rules)

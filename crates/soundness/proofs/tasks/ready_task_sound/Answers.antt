@@ -7,4 +7,4 @@ use Rattle.soundness.proofs.tasks.ready_task_sound.Goals as goal
 pub returns : goal.returns
 unfolding task_rules ready_task_rules decode_task
 returns c =
-    rw c.eight_zeros.ensures (ready-tests c.args.r.now c.requires _ _ _ _ _ _)
+    rw (c.zeros_at.ensures, c.zeros_at-2.ensures, c.from.ensures) (ready-tests c.args.r.now _ _ _ _ _ _)

@@ -9,5 +9,5 @@ use Rattle.soundness.proofs.tasks.waiting_task_sound.Goals as goal
 pub returns : goal.returns
 unfolding decode_task
 returns c =
-    waiting-tests c.args.q c.args.slot c.args.t (decode_task c.args.r.now) c.requires.0 c.requires.1.1.1 c.two_zeros.ensures c.four_zeros.ensures
+    waiting-tests c.args.q c.args.slot c.args.t (decode_task c.args.r.now) c.requires.0 c.requires.1.1.1 c.zeros_at.ensures c.zeros_at-2.ensures
     (ap₂ {C = Bool} eqb c.share_of_slot.ensures c.share_of_task.ensures) c.is_live.ensures c.is_open.ensures

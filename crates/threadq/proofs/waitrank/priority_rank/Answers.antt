@@ -1,22 +1,18 @@
 -- `threadq::waitrank::priority_rank` meets its contract. Assumes nothing.
-use native.Mathlib.Omega.{arith}
+use Prim.Native.Nat.{min}
+use mathlib.Core.Path.{refl, ◌∙◌}
+use Rattle.std.proofs.Common.{rules, tests}
+use Rattle.std.proofs.lemmas.Iterator.{YieldsList-from_range}
+use Rattle.std.proofs.lemmas.Iterator.Consumers.{fold_from_yields_List}
+use Rattle.records.specs.Layout.{task_count}
+use Rattle.records.specs.Bytes.{decode_task_at}
 use Rattle.specification.specs.Receive.{rank_behind}
-use Rattle.threadq.proofs.LeastFolds.{least-none, least_more, least-all}
+use Rattle.threadq.proofs.LeastFolds.{least_of-tasks}
 use Rattle.threadq.proofs.waitrank.priority_rank.Goals as goal
-
-pub loop-t-init : goal.loop-t-init
-loop-t-init c =
-    let a = c.args in
-    least-none (rank_behind a.slot a.priority a.rear) a.rear a.tasks.now
-
-pub loop-t-preserved : goal.loop-t-preserved
-loop-t-preserved c =
-    let v = c.loop-t in
-    let a = c.args in
-    least_more (rank_behind a.slot a.priority a.rear) a.rear a.tasks.now v.least v.t v.invariant c.loop-t-test.true c.rank_behind.result c.smaller-least.result c.rank_behind.ensures c.smaller-least.ensures
 
 pub returns : goal.returns
 returns c =
-    let v = c.loop-t in
     let a = c.args in
-    least-all (rank_behind a.slot a.priority a.rear) a.rear a.tasks.now v.least v.t v.invariant (omega arith)
+    fold_from_yields_List _ (λ m t. min m (rank_behind a.slot a.priority a.rear (decode_task_at t a.tasks.now))) a.rear c.fold.result c.fold.ensures.ran
+    (YieldsList-from_range 0 task_count task_count refl refl) (λ m t r q k. search (rules, tests))
+    ∙ least_of-tasks (rank_behind a.slot a.priority a.rear) a.rear a.tasks.now

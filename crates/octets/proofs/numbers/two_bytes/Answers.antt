@@ -1,8 +1,0 @@
--- `octets::numbers::two_bytes` meets its contract. Assumes nothing.
-use mathlib.Core.Path.{sym}
-use Rattle.octets.proofs.NumberBytes
-use Rattle.octets.proofs.numbers.two_bytes.Goals as goal
-
-pub returns : goal.returns
-returns c =
-    sym (NumberBytes.two c.args.t.now c.args.at c.requires)

@@ -1,8 +1,0 @@
--- `threadq::masks::with_bit` meets its contract. Assumes nothing.
-use Rattle.threadq.proofs.masks.with_bit.Goals as goal
-
-pub returns-then-set : goal.returns-then-set
-returns-then-set c = rw c.if-set.true
-
-pub returns-else-set : goal.returns-else-set
-returns-else-set c = rw c.if-set.false

@@ -21,7 +21,7 @@ pub fn message_field(part: &[u8]) -> &[u8]
 }
 
 // The numbers in a record's fields.
-#[derive(Clone, Copy)]
+#[derive(Clone, Copy, Debug, PartialEq, Eq)]
 struct Numbers {
     caller: u8,
     option: u8,

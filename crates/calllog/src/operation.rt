@@ -87,7 +87,7 @@ const ROWS: [Row; 11] = [
     Row {
         caller: true,
         id: true,
-        ticks: true,
+        ticks: true, // the share
         ..EMPTY
     },
     // delete, "3, 8, 9: 1, 4-7"
@@ -125,7 +125,7 @@ const ROWS: [Row; 11] = [
         caller: true,
         option: true,
         id: true,
-        ticks: true,
+        ticks: true, // the ticks
         ..EMPTY
     },
     // pending, "3, 8, 9: 1, 4-7"

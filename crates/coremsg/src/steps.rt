@@ -14,7 +14,7 @@ ghost use Rattle.specification.specs.Submit.{delivered, enqueued};
 ghost use Rattle.coremsg.specs.StepRecords.{QueueAndTask, QueueAndBuffer};
 
 use objects::slots::change_queue;
-use ranks::{insert, take_out};
+use ranks::{Position, insert, take_out};
 use records::buffer::{clear_buffer, write_message};
 use records::layout::{
     BUFFER_DATA, BUFFER_LENGTH, BUFFER_WIDTH, MESSAGE_POSITIONS, WAITER_POSITIONS,
@@ -24,6 +24,17 @@ use records::task::{deliver, read_head, write_head};
 use threadq::waiters::make_ready;
 use threadq::waitrank::wait_rank;
 
+// The position at this rank of the queue in the slot.
+fn position_at(slot: usize, rank: u8) -> Position
+    requires { slot < slot_count }
+    ensures { result ≡ position_at slot rank }
+{
+    Position {
+        queue: (slot + 1) as u8,
+        rank,
+    }
+}
+
 // Task t waits at the rank of the queue in the slot; those at that rank or behind it move back.
 fn enter(tasks: &mut [u8], t: usize, slot: usize, rank: u8, ticks: u32)
     requires { (slot < slot_count) × ((t < task_count) × ((length tasks.old ≡ tasks_size) × Room task_position slot (records task_count task_width tasks.old))) }
@@ -31,7 +42,7 @@ fn enter(tasks: &mut [u8], t: usize, slot: usize, rank: u8, ticks: u32)
 {
     let at = insert(tasks, WAITER_POSITIONS, t, slot as u8, rank);
     let h = read_head(tasks, t);
-    write_head(tasks, t, h.waiting_at((slot + 1) as u8, at, ticks));
+    write_head(tasks, t, h.waiting_at(position_at(slot, at), ticks));
 }
 
 // The caller waits in the queue of the slot. Its rank.
@@ -101,7 +112,7 @@ pub fn put_into(queues: &mut [u8], pool: &mut [u8], b: usize, slot: usize, rank:
         ≡ (enqueued (decode (tables queues.old pool.old tasks)) b slot rank message.now).after }
 {
     let at = insert(pool, MESSAGE_POSITIONS, b, slot as u8, rank);
-    write_message(pool, b, (slot + 1) as u8, at, message);
+    write_message(pool, b, position_at(slot, at), message);
     change_queue(queues, slot, |q| q.with_pending(q.pending + 1));
 }
 

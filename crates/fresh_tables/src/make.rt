@@ -14,7 +14,7 @@ use records::task::write_fresh_task;
 pub fn good_priorities(priorities: &[u8]) -> bool
     ensures { result ≡ good_priorities priorities.now }
 {
-    priorities.len() == TASK_COUNT && priorities.iter().all(|priority| *priority != 0)
+    priorities.len() == TASK_COUNT && priorities.iter().all(|p| *p != 0)
 }
 
 // Each task is ready with its priority, and the rest of its record is zero.
@@ -22,8 +22,8 @@ fn make_tasks(tasks: &mut [u8], priorities: &[u8])
     requires { (length tasks.old ≡ tasks_size) × (length priorities.now ≡ task_count) }
     ensures { decode_tasks tasks.new ≡ fresh_tasks priorities.now }
 {
-    for t in 0..TASK_COUNT {
-        write_fresh_task(tasks, t, priorities[t]);
+    for (t, priority) in priorities.iter().enumerate() {
+        write_fresh_task(tasks, t, *priority);
     }
 }
 
@@ -42,10 +42,7 @@ pub fn make_fresh(queues: &mut [u8], pool: &mut [u8], tasks: &mut [u8], prioriti
     ensures { (record { done = result; after = tables queues.new pool.new tasks.new })
         ≡ made_fresh (tables queues.old pool.old tasks.old) priorities.now }
 {
-    if !right_lengths(queues, pool, tasks) {
-        return false;
-    }
-    if !good_priorities(priorities) {
+    if !right_lengths(queues, pool, tasks) || !good_priorities(priorities) {
         return false;
     }
     write_fresh(queues, pool, tasks, priorities);

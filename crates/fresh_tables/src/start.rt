@@ -7,6 +7,7 @@ ghost use Rattle.specification.specs.Run.{fresh_tables};
 
 use crate::make::make_fresh;
 use records::layout::{POOL_SIZE, QUEUES_SIZE, TASK_COUNT, TASKS_SIZE};
+use std::array;
 
 // The bytes of the three tables as one value.
 #[derive(Drop)]
@@ -20,7 +21,7 @@ pub struct TableBytes {
 fn priorities() -> [u8; TASK_COUNT]
     ensures { result ≡ numbers_from 1 task_count }
 {
-    std::array::from_fn(|t| t as u8 + 1)
+    array::from_fn(|t| t as u8 + 1)
 }
 
 // "The program starts fresh". The tables have their lengths and the priorities are 1 to 32, so that nothing is refused.
@@ -30,8 +31,7 @@ pub fn fresh() -> TableBytes
     let mut queues = [0u8; QUEUES_SIZE];
     let mut pool = [0u8; POOL_SIZE];
     let mut tasks = [0u8; TASKS_SIZE];
-    let p = priorities();
-    make_fresh(&mut queues, &mut pool, &mut tasks, &p);
+    make_fresh(&mut queues, &mut pool, &mut tasks, &priorities());
     TableBytes {
         queues,
         pool,

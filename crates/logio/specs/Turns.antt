@@ -58,7 +58,7 @@ ending_of (Ok n) = Ok tt
 ending_of (Err e) = Err e
 
 -- What becomes of a log after a block of which the reads came to `filled`, and whose answers are `bytes`. `done` stands for what a write of
--- them to standard output came to; where nobody asks for answers, all is done.
+-- them to standard output came to; where nobody asks for answers, all is done. After a failed read there are none, and nothing is written.
 pub record Finished (answering : Bool) (filled : Result ℕ Error) (bytes : List ℕ) (r : Result ℕ ReplayError) : Type 0 where
   pub done : Result (Unit {0}) Error
   pub writes : WritesAnswers standard_output answering bytes done

@@ -24,13 +24,14 @@ fn generation_of(id: u32) -> usize
 }
 
 // "An id is usable if its slot (id mod 16) is live, id div 16 is its generation, and the slot is in the caller's share or OPEN."
-#[tactic(auto, unfolding(ranks::specs::Lists::all_true))]
+#[tactic(auto, unfolding(ranks::specs::Lists::all_true, specification::specs::Lookup::is_foreign))]
 pub fn usable(q: QueueRecord, caller: usize, id: u32) -> bool
     requires { caller < task_count }
     ensures { result ≡ usable_queue q caller id }
 {
-    let own = share_of_slot(slot_of(id)) == share_of_task(caller);
-    q.is_live() & (generation_of(id) == usize::from(q.generation)) & (own | q.is_open())
+    q.is_live()
+        & (generation_of(id) == usize::from(q.generation))
+        & (!is_foreign(caller, slot_of(id)) | q.is_open())
 }
 
 // The slot is of another share than the caller.

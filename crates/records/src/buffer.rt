@@ -7,29 +7,26 @@ ghost use Rattle.records.specs.Changes.{change_at, message_buffer};
 
 use crate::layout::{BUFFER_DATA, BUFFER_LENGTH, BUFFER_POSITION, BUFFER_WIDTH};
 use octets::copy::copy_into;
+use ranks::Position;
 
-fn encode_message(queue: u8, rank: u8, message: &[u8]) -> [u8; BUFFER_WIDTH]
+fn encode_message(position: Position, message: &[u8]) -> [u8; BUFFER_WIDTH]
     requires { length message.now ≤ capacity }
-    ensures { result ≡ encode_buffer (message_buffer (record { queue = queue; rank = rank }) message.now) }
+    ensures { result ≡ encode_buffer (message_buffer position message.now) }
 {
     let mut r = [0u8; BUFFER_WIDTH];
-    r[BUFFER_POSITION] = queue;
-    r[BUFFER_POSITION + 1] = rank;
+    r[BUFFER_POSITION] = position.queue;
+    r[BUFFER_POSITION + 1] = position.rank;
     r[BUFFER_LENGTH] = message.len() as u8;
     copy_into(&mut r, BUFFER_DATA, message);
     r
 }
 
-// The message goes into buffer b, which stands at this rank of this queue.
-pub fn write_message(pool: &mut [u8], b: usize, queue: u8, rank: u8, message: &[u8])
+// The message goes into buffer b, which stands at this position.
+pub fn write_message(pool: &mut [u8], b: usize, position: Position, message: &[u8])
     requires { (length pool.old ≡ pool_size) × ((b < buffer_count) × (length message.now ≤ capacity)) }
-    ensures { decode_pool pool.new ≡ change_at b (λ _. message_buffer (record { queue = queue; rank = rank }) message.now) (decode_pool pool.old) }
+    ensures { decode_pool pool.new ≡ change_at b (λ _. message_buffer position message.now) (decode_pool pool.old) }
 {
-    copy_into(
-        pool,
-        b * BUFFER_WIDTH,
-        &encode_message(queue, rank, message),
-    );
+    copy_into(pool, b * BUFFER_WIDTH, &encode_message(position, message));
 }
 
 // Buffer b becomes free.

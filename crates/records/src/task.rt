@@ -10,6 +10,7 @@ use crate::layout::{TASK_DATA, TASK_LENGTH, TASK_POSITION, TASK_WIDTH};
 use crate::status::{SUCCESSFUL, WAITING};
 use octets::copy::copy_into;
 use octets::numbers::{bytes_at, bytes_of_u32, read_u32};
+use ranks::Position;
 
 pub const READY_STATE: u8 = 0;
 
@@ -49,14 +50,14 @@ impl TaskHead {
         }
     }
 
-    // The task waits at this rank of this queue: "status 14, length 0, ticks left as given".
-    pub fn waiting_at(self, queue: u8, rank: u8, ticks: u32) -> Self
-        ensures { result ≡ waiting_head queue rank ticks self }
+    // The task waits at this position: "status 14, length 0, ticks left as given".
+    pub fn waiting_at(self, position: Position, ticks: u32) -> Self
+        ensures { result ≡ waiting_head position.queue position.rank ticks self }
     {
         Self {
             state: WAITING_STATE,
-            queue,
-            rank,
+            queue: position.queue,
+            rank: position.rank,
             status: WAITING,
             message_length: 0,
             ticks_left: ticks,

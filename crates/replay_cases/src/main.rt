@@ -30,13 +30,14 @@ use fresh_tables::start::fresh;
 use logio::agreeing::agreeing;
 use logio::block::{ANSWERS, BLOCK, replay_block};
 use octets::copy::copy_into;
-use octets::numbers::bytes_at;
+use octets::numbers::{bytes_at, read_u16};
 use records::layout::{
     IMAGE_SIZE, POOL_PLACE, POOL_SIZE, QUEUES_PLACE, QUEUES_SIZE, TASKS_PLACE, TASKS_SIZE,
 };
 use std::fs::File;
 use std::io;
 use std::io::Write;
+use std::ops::Add;
 use streams::reading::{fill, open};
 
 // The logs.
@@ -100,8 +101,10 @@ struct Totals {
     differences: u64,
 }
 
-impl Totals {
-    fn plus(self, other: Totals) -> Totals {
+impl Add for Totals {
+    type Output = Totals;
+
+    fn add(self, other: Totals) -> Totals {
         Totals {
             files: self.files.wrapping_add(other.files),
             cases: self.cases.wrapping_add(other.cases),
@@ -273,7 +276,7 @@ fn length_at(head: &[u8; HEAD], at: usize) -> usize
     requires { at + 2 ≤ 38 }
     ensures { result < 65536 }
 {
-    usize::from(u16::from_le_bytes(bytes_at(head, at)))
+    usize::from(read_u16(head, at))
 }
 
 // Whether the case of which this follows the head holds.
@@ -340,12 +343,13 @@ fn run_cases(rt: &HostRuntime, file: &io::Result<File>, name: &str, base: &[u8])
                 if !case.holds {
                     tell_case(rt, name, &case.name);
                 }
-                totals = totals.plus(Totals {
-                    files: 0,
-                    cases: 1,
-                    records: case.records as u64,
-                    differences: u64::from(!case.holds),
-                });
+                totals = totals
+                    + (Totals {
+                        files: 0,
+                        cases: 1,
+                        records: case.records as u64,
+                        differences: u64::from(!case.holds),
+                    });
             }
             Ok(None) => break,
             Err(_) => {
@@ -383,10 +387,10 @@ fn compare_cases(rt: &HostRuntime, name: &str) -> Totals {
 fn main(rt: HostRuntime) {
     let mut totals = Totals::default();
     for name in LOGS {
-        totals = totals.plus(compare_log(&rt, name));
+        totals = totals + compare_log(&rt, name);
     }
     for name in CASES {
-        totals = totals.plus(compare_cases(&rt, name));
+        totals = totals + compare_cases(&rt, name);
     }
     let _ = println!(rt;
         "{} files, {} cases, {} records, {} differences",

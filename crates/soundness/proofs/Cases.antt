@@ -20,7 +20,7 @@ use Rattle.octets.specs.LittleEndian.{from_little_endian}
 use Rattle.records.specs.Status.{WAITING}
 use Rattle.octets.proofs.ZeroBytes.{zero_number, zeros-add}
 use Rattle.specification.proofs.Rules.{Live, Free, queue-rules}
-use Rattle.soundness.specs.declared.ranked.Kind.TheVariants.{Waiters}
+use Rattle.soundness.specs.declared.ranked.Members.TheVariants.{Waiters}
 use Rattle.soundness.specs.Parts.{below_count, buffer_tests, task_tests, used_buffer_tests, waiting_task_tests}
 use Rattle.specification.specs.Sound.{slot_in, sound_queue, live_queue_rules, free_queue_rules, limit_in, sound_buffer, free_buffer_rules, used_buffer_rules, sound_task, task_rules, ready_task_rules, waiting_task_rules}
 

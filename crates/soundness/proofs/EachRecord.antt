@@ -1,4 +1,4 @@
--- What `all` answers over the records of a table, or over their numbers. Assumes nothing.
+-- What `all` answers over the records of a table, over numbers and over items. Assumes nothing.
 use Prim.Native.Nat.{ℕ, zero, suc, ◌+◌, ◌*◌, ◌<◌}
 use native.Mathlib.Nat.{zero-add, sub-zero, zero-mul, suc-mul}
 use native.Mathlib.Omega.{arith}
@@ -14,11 +14,12 @@ use Rattle.std.specs.declared.iter.Enumerate.{Enumerate}
 use Rattle.std.specs.declared.ops.Range.{Range}
 use Rattle.std.specs.Bool.{MatchBool}
 use Rattle.std.specs.Iterator.{ChecksAll, AlwaysYields}
-use Rattle.std.specs.Slice.Iter.{chunks_exact_rest, chunks_exact_size, chunks_exact_steps}
+use Rattle.std.specs.Slice.Iter.{iter_rest, chunks_exact_rest, chunks_exact_size, chunks_exact_steps}
 use Rattle.std.specs.Iterator.Adapters.{enumerate_source, enumerate_count, enumerate_steps}
 use Rattle.std.specs.List.{range_with_len, enumerate_from, AllWithin, HoldsAt}
-use Rattle.std.proofs.iter.Yields.{nat_range_steps}
-use Rattle.std.proofs.lemmas.Iterator.{YieldsList, YieldsList-from_range, cases_from_all}
+use Rattle.std.specs.declared.slice.Iter.{Iter}
+use Rattle.std.proofs.iter.Yields.{nat_range_steps, fronts}
+use Rattle.std.proofs.lemmas.Iterator.{YieldsList, YieldsList-from_range, YieldsList-from_slice, cases_from_all}
 use Rattle.std.proofs.lemmas.Iterator.Consumers.{YieldsList-from_enumerate}
 use Rattle.std.proofs.lemmas.List.FromFn.{length-range_with_len, get_or-range_with_len, length-enumerate_from, get_or-enumerate_from}
 use Rattle.std.proofs.lemmas.List.{get_or_default}
@@ -65,6 +66,25 @@ every-number test n f u r ran each =
     let numbers = numbers_from 0 n in
     all-answers (map_with_index (λ i k. test k) numbers) n (length-mapped (λ i k. test k) numbers ∙ length-range 0 n) f u r test ran each
     (λ i lt. at-mapped (λ i k. test k) numbers i 0 false (omega (arith, length-range 0 n)) ∙ ap test (at-range 0 n i 0 lt ∙ zero-add i))
+
+-- ---- The items of a slice
+
+-- the code answers `said` of each item
+pub every-item : {A : Type 0} (test : ℕ → A → Bool) (xs : List A) (said : A → Bool) {F : Type 0} {g : Mut F (Bor A × Unit {0}) Bool} (f : F) (s u : Iter A) (r : Bool)
+    → ChecksAll fronts g s f r u
+    → iter_rest s ≡ xs
+    → ((x : Bor A) (b : Bool) (q : F) → Called g f (x, tt) b q → (q ≡ f) × (b ≡ said x.now))
+    → ((i : ℕ) (d : A) → i < length xs → said (get_or xs i d) ≡ test i (get_or xs i d))
+    → (d : A) → r ≡ every test xs
+every-item test xs said f s u r ran rest each same d =
+    decided (map_with_index test xs) xs (λ b x. said x ≡ b) (sym (length-mapped test xs))
+    (λ b i lt h.
+    let lt' : i < length xs = omega (arith, length-mapped test xs) in
+    at-mapped test xs i d false lt' ∙ sym (same i d lt') ∙ h d)
+    r
+    (cases_from_all u f r (λ x. said x ≡ true) (λ x. said x ≡ false) ran (YieldsList-from_slice xs rest)
+    (λ x q c. let h = each x true q c in (h.0, sym h.1))
+    (λ x q c. sym (each x false q c).1))
 
 -- ---- Chunks of the bytes of a table
 

@@ -28,7 +28,7 @@ use Rattle.records.specs.declared.task.TaskHead.{TaskHead}
 use Rattle.records.proofs.Writing.{length-decoded, at_table}
 use Rattle.specification.specs.Sound.{by_priority}
 use Rattle.specification.proofs.SoundFacts.{rank-each}
-use Rattle.soundness.specs.declared.ranked.Kind.TheVariants.{Waiters}
+use Rattle.soundness.specs.declared.ranked.Members.TheVariants.{Waiters}
 use Rattle.soundness.specs.Parts.{only_tasks, task_positions, queue_ranked, queue_in_order, OneAtRank, PrioritiesAtRanks}
 use Rattle.soundness.proofs.RecordTests.{task-positions}
 

@@ -23,7 +23,7 @@ use Rattle.ranks.proofs.Ranked.{implying}
 use Rattle.ranks.proofs.Table.{length-records, at_records, position-slice}
 use Rattle.records.specs.Layout.{slot_count}
 use Rattle.records.specs.Records.{Queue, free_queue, is_live}
-use Rattle.soundness.specs.declared.ranked.Kind.{Kind}
+use Rattle.soundness.specs.declared.ranked.Members.{Members}
 use Rattle.soundness.specs.Parts.{positions_in, stood, held, below_count, Among, queue_ranked}
 
 -- ---- Counting
@@ -165,33 +165,33 @@ ranks-wrong slot n ps r h ne =
 -- ---- The rule of one queue, where each record has a rank below the count of its queue
 
 -- what is known of a queue that is looked at: its slot, its record, how much it holds
-pub record Visited (kind : Kind) (qs : List Queue) (ps : List Position) (slot n : ℕ) (q : Queue) : Type 0 where
+pub record Visited (members : Members) (qs : List Queue) (ps : List Position) (slot n : ℕ) (q : Queue) : Type 0 where
   pub inside : slot < slot_count
   pub read : get_or qs slot (free_queue 0) ≡ q
-  pub count : n ≡ held kind q
-  pub low : every (λ j p. below_count kind qs p) ps ≡ true
+  pub count : n ≡ held members q
+  pub low : every (λ j p. below_count members qs p) ps ≡ true
 
-module _ {kind : Kind} {qs : List Queue} {ps : List Position} {slot n : ℕ} {q : Queue} (v : Visited kind qs ps slot n q) where
+module _ {members : Members} {qs : List Queue} {ps : List Position} {slot n : ℕ} {q : Queue} (v : Visited members qs ps slot n q) where
   rank_below : (j : ℕ) → j < length ps → (get_or ps j no_queue).queue ≡ suc slot → (get_or ps j no_queue).rank < n
   rank_below j h here =
       ⊎_elim (λ z. let x : (get_or ps j no_queue).queue ≡ 0 = eqb-true _ _ z in absurd (omega arith))
       (λ lt.
       let this : pred (get_or ps j no_queue).queue ≡ slot = omega arith in
-      subst (λ (k : ℕ). (get_or ps j no_queue).rank < k) (ap (λ (s : ℕ). held kind (get_or qs s (free_queue 0))) this ∙ ap (held kind) v.read ∙ sym v.count) (ltb-true _ _ lt))
-      (or (eqb (get_or ps j no_queue).queue 0) _ (every-at (λ j p. below_count kind qs p) ps no_queue v.low j h))
+      subst (λ (k : ℕ). (get_or ps j no_queue).rank < k) (ap (λ (s : ℕ). held members (get_or qs s (free_queue 0))) this ∙ ap (held members) v.read ∙ sym v.count) (ltb-true _ _ lt))
+      (or (eqb (get_or ps j no_queue).queue 0) _ (every-at (λ j p. below_count members qs p) ps no_queue v.low j h))
 
-  pub queue-ranked : ((r : ℕ) → r < n → count_true (stood slot ps r) ≡ 1) → queue_ranked kind ps slot q ≡ true
+  pub queue-ranked : ((r : ℕ) → r < n → count_true (stood slot ps r) ≡ 1) → queue_ranked members ps slot q ≡ true
   queue-ranked h = implying _ _ (λ _. subst (λ (k : ℕ). ranked slot k ps ≡ true) v.count (ranks-hold slot n ps rank_below h))
 
   -- a queue that is free or holds nothing
-  pub queue-skipped : {live : Bool} → live ≡ is_live q → (live && not (eqb n 0)) ≡ false → queue_ranked kind ps slot q ≡ true
+  pub queue-skipped : {live : Bool} → live ≡ is_live q → (live && not (eqb n 0)) ≡ false → queue_ranked members ps slot q ≡ true
   queue-skipped e f =
       implying _ _
       (λ l.
       let z : n ≡ 0 = eqb-true _ _ (not-false _ (subst (λ (b : Bool). b && not (eqb n 0) ≡ false) (e ∙ l) f)) in
       subst (λ (k : ℕ). ranked slot k ps ≡ true) v.count (ranks-hold slot n ps rank_below (λ r lt. absurd (omega arith))))
 
-  pub queue-broken : {live : Bool} → live ≡ is_live q → (live && not (eqb n 0)) ≡ true → (r : ℕ) → r < n → (count_true (stood slot ps r) ≡ 1 → ⊥) → queue_ranked kind ps slot q ≡ false
+  pub queue-broken : {live : Bool} → live ≡ is_live q → (live && not (eqb n 0)) ≡ true → (r : ℕ) → r < n → (count_true (stood slot ps r) ≡ 1 → ⊥) → queue_ranked members ps slot q ≡ false
   unfolding ◌implies◌
   queue-broken {live} e t r h ne =
       rw (sym e ∙ (both live (not (eqb n 0)) t).0) (subst (λ (k : ℕ). ranked slot k ps ≡ false) v.count (ranks-wrong slot n ps r h ne))

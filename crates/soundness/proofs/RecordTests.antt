@@ -24,8 +24,8 @@ use Rattle.records.proofs.Tabled.{slot-share-below, buffers-end, share-buffers}
 use Rattle.records.proofs.Writing.{length-decoded}
 use Rattle.specification.specs.Sound.{sound_buffer, sound_task}
 use Rattle.specification.proofs.Rules.{Unused, Used, buffer-rules, InLive, Owned, buffer-owner, task-owner}
-use Rattle.soundness.specs.declared.ranked.Kind.{Kind}
-use Rattle.soundness.specs.declared.ranked.Kind.TheVariants.{Messages, Waiters}
+use Rattle.soundness.specs.declared.ranked.Members.{Members}
+use Rattle.soundness.specs.declared.ranked.Members.TheVariants.{Messages, Waiters}
 use Rattle.soundness.specs.Parts.{only_queues, positions, pool_positions, task_positions, held, below_count, part_start, part_size, Among, queue_ranked}
 use Rattle.soundness.proofs.Ranks.{length-positions}
 
@@ -61,52 +61,52 @@ pub record Table {A : Type 0} (test : ℕ → A → Bool) (position : A → Posi
   pub owner : (j : ℕ) → test j (get_or xs j d) ≡ true → Owned s (position (get_or xs j d))
 
 module _ {A : Type 0} {test : ℕ → A → Bool} {position : A → Position} {xs : List A} {d : A} {s : State} {ps : List Position}
-    (table : Table test position xs d s ps) (kind : Kind) where
+    (table : Table test position xs d s ps) (members : Members) where
   abbrev tests : ℕ → A → Bool
-  tests j x = test j x && below_count kind s.queues (position x)
+  tests j x = test j x && below_count members s.queues (position x)
 
   at : (j : ℕ) → j < length xs → get_or ps j no_queue ≡ position (get_or xs j d)
   at j h = ap (λ (l : List Position). get_or l j no_queue) table.same ∙ at-mapped (λ j x. position x) xs j d no_queue h
 
   -- ranks that each queue has exactly once are below its count
-  tests-pass : every test xs ≡ true → every (queue_ranked kind ps) s.queues ≡ true → every tests xs ≡ true
+  tests-pass : every test xs ≡ true → every (queue_ranked members ps) s.queues ≡ true → every tests xs ≡ true
   tests-pass rules ranks = every-from tests xs d (λ j h. and (every-at test xs d rules j h) (low j h))
     where
-      low : (j : ℕ) → j < length xs → below_count kind s.queues (position (get_or xs j d)) ≡ true
+      low : (j : ℕ) → j < length xs → below_count members s.queues (position (get_or xs j d)) ≡ true
       low j h =
           ⊎_elim (λ z. or_left _ (eq-eqb _ _ z))
           (λ (w : InLive s (position (get_or xs j d))).
-          let n : ℕ = held kind (queue_at s w.slot) in
+          let n : ℕ = held members (queue_at s w.slot) in
           let is : ranked w.slot n ps ≡ true =
-          implied (every-at (queue_ranked kind ps) s.queues (free_queue 0) ranks w.slot (omega (arith, table.queues, w.slot_below))) (eq-eqb _ _ w.live) in
+          implied (every-at (queue_ranked members ps) s.queues (free_queue 0) ranks w.slot (omega (arith, table.queues, w.slot_below))) (eq-eqb _ _ w.live) in
           let lt : (get_or ps j no_queue).rank < n = (from-ranked w.slot n ps is).below j (omega (arith, table.size)) (ap (λ (p : Position). p.queue) (at j h) ∙ w.queue) in
-          let lt' : (position (get_or xs j d)).rank < held kind (get_or s.queues (pred (position (get_or xs j d)).queue) (free_queue 0)) =
+          let lt' : (position (get_or xs j d)).rank < held members (get_or s.queues (pred (position (get_or xs j d)).queue) (free_queue 0)) =
           rw (ap pred w.queue) (subst (λ (p : Position). p.rank < n) (at j h) lt) in
           or_right (eqb (position (get_or xs j d)).queue 0) (lt-ltb _ _ lt'))
           (table.owner j (every-at test xs d rules j h))
 
   -- where a record fails, the table does
-  pub table-fails : {r : Bool} → r ≡ every tests xs → r ≡ false → false ≡ (every test xs && every (queue_ranked kind ps) s.queues)
+  pub table-fails : {r : Bool} → r ≡ every tests xs → r ≡ false → false ≡ (every test xs && every (queue_ranked members ps) s.queues)
   table-fails said e =
       ⊎_elim
-      (λ t. let (a, b) = both (every test xs) (every (queue_ranked kind ps) s.queues) t in absurd (true≢false (sym (tests-pass a b) ∙ sym said ∙ e)))
-      (λ f. sym f) (either (every test xs && every (queue_ranked kind ps) s.queues))
+      (λ t. let (a, b) = both (every test xs) (every (queue_ranked members ps) s.queues) t in absurd (true≢false (sym (tests-pass a b) ∙ sym said ∙ e)))
+      (λ f. sym f) (either (every test xs && every (queue_ranked members ps) s.queues))
 
   -- where all pass, their own rules hold, their ranks are below the counts, and the ranks decide
   module _ {r : Bool} (said : r ≡ every tests xs) (e : r ≡ true) where
-    each : (j : ℕ) → j < length xs → (test j (get_or xs j d) ≡ true) × (below_count kind s.queues (position (get_or xs j d)) ≡ true)
+    each : (j : ℕ) → j < length xs → (test j (get_or xs j d) ≡ true) × (below_count members s.queues (position (get_or xs j d)) ≡ true)
     each j h = both _ _ (every-at tests xs d (sym said ∙ e) j h)
 
     pub rules-hold : every test xs ≡ true
     rules-hold = every-from test xs d (λ j h. (each j h).0)
 
-    pub ranks-below : every (λ j p. below_count kind s.queues p) ps ≡ true
+    pub ranks-below : every (λ j p. below_count members s.queues p) ps ≡ true
     ranks-below =
-        every-from (λ j p. below_count kind s.queues p) ps no_queue
-        (λ j h. let lt : j < length xs = omega (arith, table.size) in subst (λ (p : Position). below_count kind s.queues p ≡ true) (sym (at j lt)) (each j lt).1)
+        every-from (λ j p. below_count members s.queues p) ps no_queue
+        (λ j h. let lt : j < length xs = omega (arith, table.size) in subst (λ (p : Position). below_count members s.queues p ≡ true) (sym (at j lt)) (each j lt).1)
 
-    pub ranks-decide : {x : Bool} → x ≡ every (queue_ranked kind ps) s.queues → x ≡ (every test xs && every (queue_ranked kind ps) s.queues)
-    ranks-decide h = h ∙ sym (ap (λ (b : Bool). b && every (queue_ranked kind ps) s.queues) rules-hold)
+    pub ranks-decide : {x : Bool} → x ≡ every (queue_ranked members ps) s.queues → x ≡ (every test xs && every (queue_ranked members ps) s.queues)
+    ranks-decide h = h ∙ sym (ap (λ (b : Bool). b && every (queue_ranked members ps) s.queues) rules-hold)
 
 -- ---- The two tables
 

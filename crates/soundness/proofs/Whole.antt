@@ -10,7 +10,7 @@ use Rattle.ranks.proofs.Lists.{all_cons, all_nil, every-at, every-from, mapped-c
 use Rattle.records.specs.Records.{Queue, State, free_queue, is_live}
 use Rattle.records.specs.Bytes.{decode_queues, decode_pool, decode_tasks, decode}
 use Rattle.specification.specs.Sound.{sound_queue, limits, sound_limits, sound_buffer, sound_ranks, by_priority, sound_task, sound}
-use Rattle.soundness.specs.declared.ranked.Kind.TheVariants.{Messages, Waiters}
+use Rattle.soundness.specs.declared.ranked.Members.TheVariants.{Messages, Waiters}
 use Rattle.soundness.specs.Parts.{only_queues, only_tasks, pool_positions, task_positions, queue_ranked, queue_in_order}
 use Rattle.soundness.proofs.Cases.{same_truth}
 use Rattle.soundness.proofs.RecordTests.{pool-positions, task-positions}

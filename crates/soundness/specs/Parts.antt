@@ -9,8 +9,8 @@ use Rattle.records.specs.Layout.{buffer_count, buffer_width, buffer_position, ta
 use Rattle.records.specs.Split.{share_of_slot, first_buffer, share_limit}
 use Rattle.records.specs.Records.{State, Queue, Buffer, Task, free_queue, fresh_task, is_live, has_priority}
 use Rattle.records.specs.Bytes.{decode_queues, decode_tasks}
-use Rattle.soundness.specs.declared.ranked.Kind.{Kind}
-use Rattle.soundness.specs.declared.ranked.Kind.TheVariants.{Messages, Waiters}
+use Rattle.soundness.specs.declared.ranked.Members.{Members}
+use Rattle.soundness.specs.declared.ranked.Members.TheVariants.{Messages, Waiters}
 use Rattle.specification.specs.Sound.{used_buffer_rules, sound_buffer, by_priority, task_rules, waiting_task_rules, sound_task}
 
 -- The state that a part looks at: a rule of `Sound.antt` that asks nothing else of the state says the same of the whole.
@@ -41,17 +41,17 @@ abbrev pub stood : (slot : ℕ) → List Position → (rank : ℕ) → List Bool
 stood slot ps rank = map_with_index (λ j p. stands_at slot rank p) ps
 
 -- how many messages the queue holds, or how many tasks wait in it
-abbrev pub held : Kind → Queue → ℕ
+abbrev pub held : Members → Queue → ℕ
 held Messages q = q.pending
 held Waiters q = q.waiters
 
 -- the live queue's messages or waiters carry the ranks below their count, each exactly once
-abbrev pub queue_ranked : Kind → List Position → (slot : ℕ) → Queue → Bool
-queue_ranked kind ps slot q = is_live q implies ranked slot (held kind q) ps
+abbrev pub queue_ranked : Members → List Position → (slot : ℕ) → Queue → Bool
+queue_ranked members ps slot q = is_live q implies ranked slot (held members q) ps
 
 -- the rank is below the count of the queue that the position names; a record in no queue has none
-abbrev pub below_count : Kind → List Queue → Position → Bool
-below_count kind qs p = eqb p.queue 0 || ltb p.rank (held kind (get_or qs (pred p.queue) (free_queue 0)))
+abbrev pub below_count : Members → List Queue → Position → Bool
+below_count members qs p = eqb p.queue 0 || ltb p.rank (held members (get_or qs (pred p.queue) (free_queue 0)))
 
 -- what is tested of one record: its own rules, and that its rank is below the count
 abbrev pub buffer_tests : State → (b : ℕ) → Buffer → Bool
@@ -68,11 +68,11 @@ abbrev pub waiting_task_tests : Queue → (slot t : ℕ) → Task → Bool
 waiting_task_tests q slot t w = all_true (task_rules w) && all_true (waiting_task_rules q slot t w) && ltb w.position.rank q.waiters
 
 -- the first record that can be in the queue of the slot, and how many can be from there on: its share's buffers, or every task
-abbrev pub part_start : Kind → (slot : ℕ) → ℕ
+abbrev pub part_start : Members → (slot : ℕ) → ℕ
 part_start Messages slot = first_buffer (share_of_slot slot)
 part_start Waiters slot = 0
 
-abbrev pub part_size : Kind → (count slot : ℕ) → ℕ
+abbrev pub part_size : Members → (count slot : ℕ) → ℕ
 part_size Messages count slot = share_limit (share_of_slot slot)
 part_size Waiters count slot = count
 
@@ -83,8 +83,8 @@ pub record Among (slot from to : ℕ) (ps : List Position) : Type 0 where
   pub stop : (j : ℕ) → j < length ps → in_queue slot (get_or ps j no_queue) ≡ true → j < to
 
 -- among those that can be in it
-abbrev pub AmongPart : Kind → (count slot : ℕ) → List Position → Type 0
-AmongPart kind count slot ps = Among slot (part_start kind slot) (part_start kind slot + part_size kind count slot) ps
+abbrev pub AmongPart : Members → (count slot : ℕ) → List Position → Type 0
+AmongPart members count slot ps = Among slot (part_start members slot) (part_start members slot + part_size members count slot) ps
 
 -- ---- Priorities
 

@@ -5,10 +5,10 @@ ghost use Rattle.ranks.specs.Table.{byte};
 ghost use Rattle.records.specs.Layout.{slot_count, queues_size, buffer_count, buffer_width, buffer_position, pool_size};
 ghost use Rattle.records.specs.Bytes.{decode_buffer, decode_queues, decode_pool};
 ghost use Rattle.specification.specs.Sound.{free_buffer_rules, sound_buffer};
-ghost use Rattle.soundness.specs.declared.ranked.Kind.TheVariants.{Messages};
+ghost use Rattle.soundness.specs.declared.ranked.Members.TheVariants.{Messages};
 ghost use Rattle.soundness.specs.Parts.{only_queues, pool_positions, used_buffer_tests, buffer_tests, queue_ranked};
 
-use crate::ranked::{Kind, every_ranked};
+use crate::ranked::{Members, every_ranked};
 use octets::zeros::{zeros_at, zeros_from};
 use records::layout::{
     BUFFER_DATA, BUFFER_LENGTH, BUFFER_POSITION, BUFFER_WIDTH, MESSAGE_POSITIONS, SLOT_COUNT,
@@ -69,5 +69,6 @@ pub fn pool_sound(queues: &[u8], pool: &[u8]) -> bool
     ensures { result ≡ (every (sound_buffer (only_queues queues.now)) (decode_pool pool.now)
         && every (queue_ranked Messages (pool_positions pool.now)) (decode_queues queues.now)) }
 {
-    each_buffer_sound(queues, pool) && every_ranked(queues, pool, MESSAGE_POSITIONS, Kind::Messages)
+    each_buffer_sound(queues, pool)
+        && every_ranked(queues, pool, MESSAGE_POSITIONS, Members::Messages)
 }

@@ -5,7 +5,7 @@ ghost use Rattle.ranks.specs.Steps.{ranked};
 ghost use Rattle.records.specs.Layout.{slot_count, queues_size, task_count, tasks_size};
 ghost use Rattle.records.specs.Bytes.{decode_queues, decode_tasks, decode_queue_at};
 ghost use Rattle.specification.specs.Sound.{by_priority};
-ghost use Rattle.soundness.specs.declared.ranked.Kind.TheVariants.{Waiters};
+ghost use Rattle.soundness.specs.declared.ranked.Members.TheVariants.{Waiters};
 ghost use Rattle.soundness.specs.Parts.{only_tasks, task_positions, queue_ranked, queue_in_order, OneAtRank, PrioritiesAtRanks};
 
 use octets::numbers::BYTE_VALUES;

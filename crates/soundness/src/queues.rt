@@ -32,17 +32,11 @@ fn live_queue_sound(q: QueueRecord) -> bool
         & ((q.pending == 0) | (q.waiters == 0))
 }
 
+// "A free queue record is zero but for its generation."
 fn free_queue_sound(q: QueueRecord) -> bool
     ensures { result ≡ all_true (free_queue_rules q) }
 {
-    (q.live == 0)
-        & (q.attributes == 0)
-        & (q.limit == 0)
-        & (q.max_size == 0)
-        & (q.pending == 0)
-        & (q.waiters == 0)
-        & (q.name == 0)
-        & reserved_zero(q.reserved)
+    q == q.freed()
 }
 
 fn queue_sound(q: QueueRecord) -> bool

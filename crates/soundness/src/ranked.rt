@@ -15,19 +15,19 @@ use records::shares::{first_buffer, share_limit, share_of_slot};
 
 // What a queue has by rank: its messages, or the tasks that wait in it.
 #[derive(Clone, Copy, Debug, PartialEq, Eq)]
-pub enum Kind {
+pub enum Members {
     Messages,
     Waiters,
 }
 
-impl Kind {
+impl Members {
     // How many of them the queue has.
     fn held(self, q: QueueRecord) -> u8
         ensures { result ≡ held self q }
     {
         match self {
-            Kind::Messages => q.pending,
-            Kind::Waiters => q.waiters,
+            Members::Messages => q.pending,
+            Members::Waiters => q.waiters,
         }
     }
 
@@ -37,8 +37,8 @@ impl Kind {
         ensures { result ≡ part_start self slot }
     {
         match self {
-            Kind::Messages => first_buffer(share_of_slot(slot)),
-            Kind::Waiters => 0,
+            Members::Messages => first_buffer(share_of_slot(slot)),
+            Members::Waiters => 0,
         }
     }
 
@@ -48,8 +48,8 @@ impl Kind {
         ensures { result ≡ part_size self count slot }
     {
         match self {
-            Kind::Messages => share_limit(share_of_slot(slot)),
-            Kind::Waiters => count,
+            Members::Messages => share_limit(share_of_slot(slot)),
+            Members::Waiters => count,
         }
     }
 }
@@ -65,19 +65,19 @@ fn stands_at(t: &[u8], at: usize, slot: usize, rank: u8) -> bool
 // For each live queue, its messages or waiters carry the ranks below their count, each exactly once: queue by queue, rank by rank, over the
 // records that can be in the queue. No record has a rank at its queue's count or above, so that a queue that holds nothing has no record.
 // The innermost loop counts the records at the rank, so that it has no branch. The labels of the two inner loops are their names in the proof.
-pub fn every_ranked(queues: &[u8], t: &[u8], positions: Positions, kind: Kind) -> bool
+pub fn every_ranked(queues: &[u8], t: &[u8], positions: Positions, members: Members) -> bool
     requires { (length queues.now ≡ queues_size) × (Shape positions.stride positions.place positions.count (length t.now) × ((positions.count < byte_values)
-        × ((every (λ j p. below_count kind (decode_queues queues.now) p) (positions_in positions t.now) ≡ true)
-        × ((slot : ℕ) → slot < slot_count → AmongPart kind positions.count slot (positions_in positions t.now))))) }
-    ensures { result ≡ every (queue_ranked kind (positions_in positions t.now)) (decode_queues queues.now) }
+        × ((every (λ j p. below_count members (decode_queues queues.now) p) (positions_in positions t.now) ≡ true)
+        × ((slot : ℕ) → slot < slot_count → AmongPart members positions.count slot (positions_in positions t.now))))) }
+    ensures { result ≡ every (queue_ranked members (positions_in positions t.now)) (decode_queues queues.now) }
 {
     let mut good = true;
     'search: for slot in 0..SLOT_COUNT {
         let q = read_queue(queues, slot);
-        let n = kind.held(q);
+        let n = members.held(q);
         if q.is_live() & (n != 0) {
-            let from = kind.part_start(slot);
-            let to = from + kind.part_size(slot, positions.count);
+            let from = members.part_start(slot);
+            let to = from + members.part_size(slot, positions.count);
             'ranks: for rank in 0..n {
                 let mut found: u16 = 0;
                 'records: for k in from..to {

@@ -5,10 +5,10 @@ ghost use Rattle.ranks.specs.Table.{byte};
 ghost use Rattle.records.specs.Layout.{slot_count, queues_size, task_count, task_width, task_position, tasks_size};
 ghost use Rattle.records.specs.Bytes.{decode_task, decode_queues, decode_tasks};
 ghost use Rattle.specification.specs.Sound.{task_rules, ready_task_rules, sound_task};
-ghost use Rattle.soundness.specs.declared.ranked.Kind.TheVariants.{Waiters};
+ghost use Rattle.soundness.specs.declared.ranked.Members.TheVariants.{Waiters};
 ghost use Rattle.soundness.specs.Parts.{only_queues, task_positions, waiting_task_tests, task_tests, queue_ranked};
 
-use crate::ranked::{Kind, every_ranked};
+use crate::ranked::{Members, every_ranked};
 use octets::zeros::zeros_at;
 use records::layout::{
     CAPACITY, SLOT_COUNT, TASK_LENGTH, TASK_POSITION, TASK_WIDTH, WAITER_POSITIONS,
@@ -81,5 +81,6 @@ pub fn tasks_sound(queues: &[u8], tasks: &[u8]) -> bool
     ensures { result ≡ (every (sound_task (only_queues queues.now)) (decode_tasks tasks.now)
         && every (queue_ranked Waiters (task_positions tasks.now)) (decode_queues queues.now)) }
 {
-    each_task_sound(queues, tasks) && every_ranked(queues, tasks, WAITER_POSITIONS, Kind::Waiters)
+    each_task_sound(queues, tasks)
+        && every_ranked(queues, tasks, WAITER_POSITIONS, Members::Waiters)
 }

@@ -22,7 +22,7 @@ loop-t-preserved c =
     let a = c.args in
     let v = c.loop-t in
     let done = c.write_fresh_task in
-    one-more-changed decode_task task_count task_width (λ k w. fresh_task (get_or a.priorities.now k 0)) (fresh_task 1) a.tasks.now v.tasks v.t v.invariant done.new.tasks c.loop-t-test.true done.auto.tasks done.ensures
+    one-more-changed decode_task task_count task_width (λ k w. fresh_task (get_or a.priorities.now k 0)) (fresh_task 1) a.tasks.now v.tasks v.t v.invariant done.new.tasks (omega (arith, c.loop-t-test.true)) done.auto.tasks done.ensures
 
 pub shape_of-tasks : goal.shape_of-tasks
 shape_of-tasks c = c.loop-t.invariant.size

@@ -1,19 +1,12 @@
 -- `fresh_tables::make::write_fresh` meets its contract. Assumes nothing.
 use native.Mathlib.Omega.{arith}
-use mathlib.Core.Path.{◌≡◌}
-use lib.ListN.{length}
-use Rattle.records.specs.Layout.{queues_size, pool_size, tasks_size}
 use Rattle.records.specs.Bytes.{tables}
 use Rattle.records.proofs.EncodeDecode.{lengths}
 use Rattle.fresh_tables.proofs.FreshTables.{fresh-written}
-use Rattle.fresh_tables.proofs.make.write_fresh.Goals.{Start}
 use Rattle.fresh_tables.proofs.make.write_fresh.Goals as goal
 
-sizes : (s : Start) → (length s.args.queues.now ≡ queues_size) × (length s.args.pool.now ≡ pool_size) × (length s.args.tasks.now ≡ tasks_size)
-sizes s = let a = s.args in lengths (tables a.queues.now a.pool.now a.tasks.now) s.requires.0
-
 pub make_tasks-requires : goal.make_tasks-requires
-make_tasks-requires c = ((sizes (goal.at.make_tasks-requires c).Start).2, c.requires.1)
+make_tasks-requires c = let a = c.args in ((lengths (tables a.queues.now a.pool.now a.tasks.now) c.requires.0).2, c.requires.1)
 
 pub returns : goal.returns
 returns c =

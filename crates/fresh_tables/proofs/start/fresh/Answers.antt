@@ -24,5 +24,5 @@ made = rw right refl
 pub returns : goal.returns
 returns c =
     let m = c.make_fresh in
-    let p = c.priorities-p in
+    let p = c.priorities in
     ap (λ (r : MadeFresh). r.after) (m.ensures ∙ ap (made_fresh zeros) p.ensures ∙ made)

@@ -13,7 +13,7 @@ returns c =
     let a = c.args.a.now in
     let b = c.args.b.now in
     let pairs = YieldsList-from_zip (YieldsList-at c.zip.ensures.first (YieldsList-from_slice a cc)) (YieldsList-from_slice b c.zip.ensures.second.0) in
-    count_from_yields_List c.take_while.result _ c.count.ensures.ran
+    count_from_yields_List c.take_while.result c.count.result c.count.ensures.ran
     (YieldsList-from_take_while _ (λ (p : ℕ × ℕ). eqb p.0 p.1) (YieldsList-at c.take_while.ensures.source pairs) c.take_while.ensures.closure c.take_while.ensures.done (λ x same q called. search (rules, tests)))
     ∙ length-prefix_len (λ (p : ℕ × ℕ). eqb p.0 p.1) (zip a b)
     ∙ sym (agreed a b)

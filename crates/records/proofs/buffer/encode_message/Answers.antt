@@ -4,6 +4,4 @@ use Rattle.records.proofs.Writing
 use Rattle.records.proofs.buffer.encode_message.Goals as goal
 
 pub returns : goal.returns
-returns c =
-    let a = c.args in
-    c.copy_into.ensures ∙ Writing.message-record (record { queue = a.queue; rank = a.rank }) a.message.now
+returns c = c.copy_into.ensures ∙ Writing.message-record c.args.position c.args.message.now

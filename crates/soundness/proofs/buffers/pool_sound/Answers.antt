@@ -1,5 +1,5 @@
 -- `soundness::buffers::pool_sound` meets its contract. Assumes nothing.
-use Rattle.soundness.specs.declared.ranked.Kind.TheVariants.{Messages}
+use Rattle.soundness.specs.declared.ranked.Members.TheVariants.{Messages}
 use native.Mathlib.Omega.{arith}
 use mathlib.Core.Path.{◌∙◌}
 use Rattle.records.specs.Records.{free_buffer}

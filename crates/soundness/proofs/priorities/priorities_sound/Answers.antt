@@ -4,7 +4,7 @@ use Rattle.std.proofs.lemmas.Iterator.{serves_from_Range}
 use Rattle.records.specs.Layout.{slot_count, queue_width}
 use Rattle.records.specs.Records.{free_queue}
 use Rattle.records.specs.Bytes.{decode_queue, decode_queue_at}
-use Rattle.soundness.specs.declared.ranked.Kind.TheVariants.{Waiters}
+use Rattle.soundness.specs.declared.ranked.Members.TheVariants.{Waiters}
 use Rattle.soundness.specs.Parts.{only_tasks, task_positions, queue_ranked, queue_in_order}
 use Rattle.soundness.proofs.EachRecord.{passes-at, every-record}
 use Rattle.soundness.proofs.priorities.priorities_sound.Goals as goal

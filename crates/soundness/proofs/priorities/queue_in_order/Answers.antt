@@ -4,7 +4,7 @@ use mathlib.Core.Path.{◌≡◌, sym, ap, subst, ◌∙◌}
 use mathlib.Core.Bool.{Bool, true}
 use Rattle.ranks.specs.Steps.{ranked}
 use Rattle.records.specs.Records.{Queue}
-use Rattle.soundness.specs.declared.ranked.Kind.TheVariants.{Waiters}
+use Rattle.soundness.specs.declared.ranked.Members.TheVariants.{Waiters}
 use Rattle.soundness.specs.Parts.{only_tasks, task_positions, queue_ranked, queue_in_order}
 use Rattle.soundness.proofs.Orders.{order-skipped, waiters-ranks, order-tested}
 use Rattle.soundness.proofs.priorities.queue_in_order.Goals.{After-read_queue-q, Start}

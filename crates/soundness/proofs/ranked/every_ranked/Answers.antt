@@ -19,7 +19,7 @@ use Rattle.soundness.proofs.Ranks.{length-positions, at-positions, part-is, none
 use Rattle.soundness.proofs.ranked.every_ranked.Goals.{After-from-found, After-held-n, After-part_size, After-records, In-records, Start, then-is_live-n+else-ranks-test, else-is_live-n}
 use Rattle.soundness.proofs.ranked.every_ranked.Goals as goal
 
-visited : (c : After-held-n) → Visited c.args.kind (decode_queues c.args.queues.now) (positions_in c.args.positions c.args.t.now) c.search.slot c.held-n.result c.read_queue-q.result
+visited : (c : After-held-n) → Visited c.args.members (decode_queues c.args.queues.now) (positions_in c.args.positions c.args.t.now) c.search.slot c.held-n.result c.read_queue-q.result
 visited c =
     record {
       inside = c.search-test.true;

@@ -25,7 +25,7 @@ decreases-ranks l =
 
 abbrev pub invariant-search : goal.invariant-search
 invariant-search l =
-    AllBelow (queue_ranked l.kind (positions_in l.positions l.t)) (decode_queues l.queues) slot_count l.good l.slot
+    AllBelow (queue_ranked l.members (positions_in l.positions l.t)) (decode_queues l.queues) slot_count l.good l.slot
 
 abbrev pub decreases-search : goal.decreases-search
 decreases-search l =

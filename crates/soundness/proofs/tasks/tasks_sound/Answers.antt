@@ -1,5 +1,5 @@
 -- `soundness::tasks::tasks_sound` meets its contract. Assumes nothing.
-use Rattle.soundness.specs.declared.ranked.Kind.TheVariants.{Waiters}
+use Rattle.soundness.specs.declared.ranked.Members.TheVariants.{Waiters}
 use native.Mathlib.Omega.{arith}
 use mathlib.Core.Path.{◌∙◌}
 use Rattle.records.specs.Records.{fresh_task}

@@ -3,10 +3,10 @@ use Prim.Native.Nat.{ℕ, zero, suc, ◌+◌, ◌≤◌, ◌<◌, ◌-◌, min}
 use native.Mathlib.Nat.{add-zero}
 use native.Mathlib.Omega.{arith}
 use mathlib.Core.Path.{◌≡◌, refl, sym, ap, subst, ◌∙◌}
-use mathlib.Core.Bool.{Bool, true, false, ◌&&◌, ◌||◌, and_assoc, and-true}
-use mathlib.Core.List.{List, [], ◌∷◌}
+use mathlib.Core.Bool.{Bool, true, false, ◌&&◌, ◌||◌, and_assoc, and-true, and-false}
+use mathlib.Core.List.{List, [], ◌∷◌, map}
 use lib.Dec.{eqb, leb}
-use lib.ListN.{length, take, drop, length-drop}
+use lib.ListN.{length, get_or, take, drop, get_or-map, get_or-eq_default, length-drop}
 use lib.Seq.{drop-drop, take_all}
 use borrow.Author.Tests.{eq-eqb, ne_eqb, le-ltb, lt-ltb}
 use Rattle.std.specs.Prelude.{if◌then◌else◌}
@@ -16,11 +16,12 @@ use Rattle.ranks.specs.Table.{slice, byte}
 use Rattle.ranks.proofs.Lists.{all_cons, all_nil}
 use Rattle.records.specs.Layout.{capacity}
 use Rattle.octets.specs.LittleEndian.{from_little_endian}
-use Rattle.octets.proofs.ZeroBytes.{zero_number}
+use Rattle.octets.proofs.ZeroBytes.{zero_number, zeros-later}
 use Rattle.calllog.specs.declared.call.Call.{Call}
 use Rattle.calllog.specs.declared.call.LogResult.{LogResult}
 use Rattle.calllog.specs.declared.call.LogResult.TheVariants.{WellFormed, Malformed, End}
-use Rattle.calllog.specs.CallLog.{message_place, record_width, Field, caller, option, size, id, ticks, limit, max_size, reserved, message, bytes_of, message_of, ◌of◌, names, row_of, keeps_row, call_with, call_in, read_record, read_at, place_after}
+use Rattle.calllog.specs.Operations.{row_with}
+use Rattle.calllog.specs.CallLog.{message_place, record_width, Field, caller, option, size, id, ticks, limit, max_size, reserved, message, bytes_of, message_of, ◌of◌, names, rows, row_of, keeps_row, call_with, call_in, read_record, read_at, place_after}
 
 -- a number of one byte
 pub one_byte : (k : ℕ) (r : List ℕ) → from_little_endian (slice k 1 r) ≡ byte k r
@@ -30,6 +31,18 @@ one_byte zero (b ∷ r) = add-zero b
 one_byte (suc k) [] = refl
 one_byte (suc k) (b ∷ r) = one_byte k r
 
+-- ---- The rows
+
+-- every row of the code at once: the definition's rows, computed
+pub row_at : (k : ℕ) → get_or (map row_with rows) k (row_with []) ≡ row_with (row_of k)
+unfolding row_of
+row_at k = get_or-map row_with rows k []
+
+-- a number that no operation has
+pub row-beyond : (k : ℕ) → 11 ≤ k → row_with [] ≡ row_with (row_of k)
+unfolding rows row_of
+row-beyond k h = ap row_with (sym (get_or-eq_default rows [] h))
+
 -- ---- A record that keeps its row
 
 module _ (r : List ℕ) (whole : length r ≡ record_width) where
@@ -37,14 +50,34 @@ module _ (r : List ℕ) (whole : length r ≡ record_width) where
   unfolding slice
   to-end = take_all capacity (message_of r) (omega (arith, length-drop message_place r))
 
-  -- the code's tests, one after the other, are the definition's
-  pub keeps : (row : List Field) →
+  -- the definition's tests, one after the other
+  each : (row : List Field) →
       ((((((((((names row caller || eqb (caller of r) 0) && (names row option || eqb (option of r) 0)) && (names row size || eqb (size of r) 0))
       && (names row id || eqb (id of r) 0)) && (names row ticks || eqb (ticks of r) 0)) && (names row limit || eqb (limit of r) 0)) && (names row max_size || eqb (max_size of r) 0))
       && (names row message || all_zero (message_of r))) && eqb (reserved of r) 0) && leb (size of r) capacity)
       && all_zero (drop (message_place + (size of r)) r) ≡ keeps_row row r
   unfolding keeps_row
-  keeps row = simp (zero_number, to-end, drop-drop, all_cons, all_nil, and_assoc, and-true)
+  each row = simp (zero_number, to-end, drop-drop, all_cons, all_nil, and_assoc, and-true)
+
+  -- a field that is zero has no message, and so nothing else behind it
+  absorbed : (a x b c z : Bool) → (x ≡ true → z ≡ true) → ((a && b) && c) && x ≡ (((a && x) && b) && c) && z
+  absorbed a true b c z f = ap (λ (y : Bool). ((a && b) && c) && y) (sym (f refl)) ∙ ap (λ (y : Bool). ((y && b) && c) && z) (sym (and-true a))
+  absorbed a false b c z f = and-false _ ∙ ap (λ (y : Bool). ((y && b) && c) && z) (sym (and-false a))
+
+  by_size : (a b c named : Bool) → ((a && b) && c) && all_zero (drop (message_place + (if named then (size of r) else 0)) r)
+      ≡ (((a && (named || all_zero (message_of r))) && b) && c) && all_zero (drop (message_place + (size of r)) r)
+  by_size a b c true = ap (λ (y : Bool). ((y && b) && c) && all_zero (drop (message_place + (size of r)) r)) (sym (and-true a))
+  by_size a b c false =
+      ap (λ (k : ℕ). ((a && b) && c) && all_zero (drop k r)) (add-zero message_place)
+      ∙ absorbed a (all_zero (message_of r)) b c _ (zeros-later r message_place (message_place + (size of r)) (omega arith))
+
+  -- the code's tests, which look at what is behind the message once
+  pub keeps : (row : List Field) →
+      ((((((((names row caller || eqb (caller of r) 0) && (names row option || eqb (option of r) 0)) && (names row size || eqb (size of r) 0))
+      && (names row id || eqb (id of r) 0)) && (names row ticks || eqb (ticks of r) 0)) && (names row limit || eqb (limit of r) 0)) && (names row max_size || eqb (max_size of r) 0))
+      && eqb (reserved of r) 0) && leb (size of r) capacity
+      && all_zero (drop (message_place + (if names row message then (size of r) else 0)) r) ≡ keeps_row row r
+  keeps row = by_size _ _ _ (names row message) ∙ each row
 
 -- ---- What a record says
 

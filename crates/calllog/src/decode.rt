@@ -1,5 +1,5 @@
 // What a record of a log says, and what stands at a place of a log.
-ghost use Rattle.std.specs.Prelude.{◌≡◌};
+ghost use Rattle.std.specs.Prelude.{◌≡◌, if◌then◌else◌};
 ghost use Rattle.calllog.specs.declared.call.LogResult.TheVariants.{WellFormed};
 ghost use Rattle.calllog.specs.CallLog.{message_of, row_of, keeps_row, call_with, read_record, read_at, place_after, record_count};
 ghost use Rattle.calllog.specs.Operations.{number_of, numbers_in};
@@ -8,7 +8,7 @@ use crate::call::{Call, Directive, LogResult};
 use crate::layout::{
     CALLER, ID, LIMIT, MAX_SIZE, MESSAGE, OPERATION, OPTION, RECORD_WIDTH, RESERVED, SIZE, TICKS,
 };
-use crate::operation::Operation;
+use crate::operation::{Operation, Row};
 use octets::numbers::{read_u16, read_u32};
 use octets::zeros::zeros_from;
 use records::layout::CAPACITY;
@@ -49,6 +49,17 @@ fn numbers_in(bytes: &[u8; RECORD_WIDTH]) -> Numbers
     }
 }
 
+// How many bytes of its field the message has: none where the row names no message.
+fn message_size(row: Row, numbers: Numbers) -> usize
+    ensures { result ≡ (if row.message then numbers.size else 0) }
+{
+    if row.message {
+        usize::from(numbers.size)
+    } else {
+        0
+    }
+}
+
 // "Anything else not zero, a size above 120" is malformed: a field that the operation's row does not name is zero, and so is what follows the
 // message. The tests have no branch between them.
 #[tactic(auto, using(crate::proofs::Laws::keeps))]
@@ -64,10 +75,9 @@ fn keeps_row(operation: Operation, numbers: Numbers, bytes: &[u8; RECORD_WIDTH])
         & (row.ticks | (numbers.ticks == 0))
         & (row.limit | (numbers.limit == 0))
         & (row.max_size | (numbers.max_size == 0))
-        & (row.message | zeros_from(bytes, MESSAGE))
         & (numbers.reserved == 0)
         & (usize::from(numbers.size) <= CAPACITY)
-        & zeros_from(bytes, MESSAGE + usize::from(numbers.size))
+        & zeros_from(bytes, MESSAGE + message_size(row, numbers))
 }
 
 // The call of an operation with these numbers.

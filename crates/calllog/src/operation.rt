@@ -144,12 +144,21 @@ const ROWS: [Row; 11] = [
     EMPTY,
 ];
 
+// The row of an operation, by its number. Another operation may use no field.
+pub fn row_of(operation: usize) -> Row
+    ensures { result ≡ row_with (row_of operation) }
+{
+    if operation < ROWS.len() {
+        return ROWS[operation];
+    }
+    EMPTY
+}
+
 impl Operation {
     // The fields that this operation may use.
-    #[tactic(auto, unfolding(crate::specs::CallLog::rows, crate::specs::CallLog::row_of, crate::specs::CallLog::names))]
     pub fn row(self) -> Row
         ensures { result ≡ row_with (row_of (number_of self)) }
     {
-        ROWS[self as usize]
+        row_of(self as usize)
     }
 }

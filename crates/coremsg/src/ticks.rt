@@ -1,5 +1,5 @@
 // What a tick does to one task.
-ghost use Rattle.std.specs.Prelude.{◌≡◌, List, ℕ, length};
+ghost use Rattle.std.specs.Prelude.{◌≡◌, List, ℕ, ◌+◌, length};
 ghost use Rattle.ranks.specs.Lists.{mask};
 ghost use Rattle.records.specs.Layout.{tasks_size};
 ghost use Rattle.records.specs.Bytes.{tables, decode_tasks, decode};
@@ -33,10 +33,11 @@ pub fn expired_mask(tasks: &[u8]) -> u32
     mask_of(|t| expires(read_head(tasks, t)))
 }
 
-// "every waiting task with ticks above 0 loses one; all that reach 0 become ready": task t, whatever the buffers.
-pub fn tick_task(queues: &mut [u8], tasks: &mut [u8], t: usize)
+// "every waiting task with ticks above 0 loses one; all that reach 0 become ready": task t, whatever the buffers. The task that comes next.
+pub fn tick_task(queues: &mut [u8], tasks: &mut [u8], t: usize) -> usize
     requires { TickedTask queues.old tasks.old t }
-    ensures { (pool : List ℕ) → decode (tables queues.new pool tasks.new) ≡ tick_task (decode (tables queues.old pool tasks.old)) t }
+    ensures { (result ≡ t + 1) × ((pool : List ℕ) → decode (tables queues.new pool tasks.new)
+        ≡ tick_task (decode (tables queues.old pool tasks.old)) t) }
 {
     let h = read_head(tasks, t);
     if expires(h) {
@@ -45,4 +46,5 @@ pub fn tick_task(queues: &mut [u8], tasks: &mut [u8], t: usize)
     } else if is_timed(h) {
         write_head(tasks, t, h.with_ticks(h.ticks_left - 1));
     }
+    t + 1
 }

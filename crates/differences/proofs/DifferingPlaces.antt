@@ -1,10 +1,11 @@
 -- The places at which two records differ, as a walk over the pairs of their bytes finds them. Assumes nothing.
-use Rattle.std.proofs.Common.{ℕ, ◌≡◌, ◌+◌, List, [], ◌∷◌, not, Bool, true, false, cond, refl, sym, ◌∙◌, count_by, zip}
-use Rattle.std.specs.List.{prefix_len}
+use Rattle.std.proofs.Common.{ℕ, ◌≡◌, ◌+◌, ◌%◌, ◌<◌, ◌≤◌, List, [], ◌∷◌, not, Bool, true, false, cond, refl, sym, ◌∙◌, length, count_by, zip}
+use Rattle.std.specs.List.{fold, prefix_len}
 use Rattle.std.proofs.lemmas.List.Sums.{sum_by-cons}
 use native.Mathlib.Omega.{arith}
 use lib.Dec.{eqb}
 use Rattle.ranks.specs.Lists.{count_true, first_true}
+use Rattle.octets.specs.LittleEndian.{byte_values}
 use Rattle.differences.specs.Differences.{differ_at}
 
 abbrev pub unequal : ℕ × ℕ → Bool
@@ -32,3 +33,24 @@ unfolding first_true differ_at
 placed [] ys = refl
 placed (x ∷ xs) [] = refl
 placed (x ∷ xs) (y ∷ ys) = further (eqb x y) (differ_at xs ys) _ (placed xs ys)
+
+-- a count of 8 bits, and one more if the bytes of a pair differ
+abbrev pub with_pair : ℕ → ℕ × ℕ → ℕ
+with_pair n p = (n + cond (unequal p) 1 0) % byte_values
+
+one_or_none : (b : Bool) → cond b 1 0 ≤ 1
+one_or_none true = omega arith
+one_or_none false = omega arith
+
+-- it does not wrap where there are fewer than 256 pairs
+folded : (n : ℕ) (ps : List (ℕ × ℕ)) → n + length ps < byte_values → fold with_pair n ps ≡ n + count_by unequal ps
+folded n [] h = omega arith
+folded n (p ∷ ps) h =
+    let small = one_or_none (unequal p) in
+    let now : with_pair n p ≡ n + cond (unequal p) 1 0 = omega (arith, small, h) in
+    let rest = folded (with_pair n p) ps (omega (arith, small, now, h)) in
+    let all = sum_by-cons (λ (p : ℕ × ℕ). cond (unequal p) 1 0) p ps in
+    omega (arith, now, rest, all)
+
+pub folded-from-0 : (ps : List (ℕ × ℕ)) → length ps < byte_values → fold with_pair 0 ps ≡ count_by unequal ps
+folded-from-0 ps h = omega (arith, folded 0 ps (omega arith))

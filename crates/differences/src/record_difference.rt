@@ -17,12 +17,14 @@ fn first_differing(one: &[u8], two: &[u8]) -> usize
     one.iter().zip(two).take_while(|(x, y)| x == y).count()
 }
 
-// How many bytes differ.
-fn differing_count(one: &[u8], two: &[u8]) -> usize
-    ensures count { result ≡ count_by (λ p. not (p.0 == p.1)) (zip one.now two.now) }
-    ensures bound { result ≤ length one.now }
+// How many bytes differ. A record has fewer than 256, so that a count of 8 bits does not wrap.
+fn differing_count(one: &[u8], two: &[u8]) -> u8
+    requires { length one.now < byte_values }
+    ensures { result ≡ count_by (λ p. not (p.0 == p.1)) (zip one.now two.now) }
 {
-    one.iter().zip(two).filter(|(x, y)| x != y).count()
+    one.iter()
+        .zip(two)
+        .fold(0u8, |count, (x, y)| count.wrapping_add(u8::from(x != y)))
 }
 
 // Of two records: count 0 if they are equal.
@@ -35,7 +37,7 @@ fn record_difference(table: u8, number: u8, one: &[u8], two: &[u8]) -> Differenc
         table,
         number,
         place: first_differing(one, two) as u8,
-        count: differing_count(one, two) as u8,
+        count: differing_count(one, two),
     }
 }
 

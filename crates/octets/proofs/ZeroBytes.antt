@@ -86,7 +86,7 @@ module _ (r : List ℕ) where
   pub zeros-stop : (i n : ℕ) → all_zero (slice i n r) ≡ false → all_zero (drop i r) ≡ false
   zeros-stop i n e = sym (zeros-rest i n r) ∙ ap (λ (z : Bool). z && all_zero (drop (i + n) r)) e
 
-  zeros-later : (a b : ℕ) → a ≤ b → all_zero (drop a r) ≡ true → all_zero (drop b r) ≡ true
+  pub zeros-later : (a b : ℕ) → a ≤ b → all_zero (drop a r) ≡ true → all_zero (drop b r) ≡ true
   zeros-later a b h e =
       let k : a + (b - a) ≡ b = omega arith in
       let both-zero = both (all_zero (slice a (b - a) r)) (all_zero (drop (a + (b - a)) r)) (zeros-rest a (b - a) r ∙ e) in

@@ -33,6 +33,14 @@ pub fn read_u32(t: &[u8], at: usize) -> u32
     u32::from_le_bytes(bytes_at(t, at))
 }
 
+// The number in eight bytes from place at on.
+pub fn read_u64(t: &[u8], at: usize) -> u64
+    requires { at + 8 ≤ length t.now }
+    ensures { result ≡ from_little_endian (slice at 8 t.now) }
+{
+    u64::from_le_bytes(bytes_at(t, at))
+}
+
 // The two bytes of a number.
 #[tactic(auto, unfolding(crate::specs::LittleEndian::to_little_endian))]
 pub fn bytes_of_u16(n: u16) -> [u8; 2]

@@ -6,7 +6,8 @@ use mathlib.Core.Path.{◌≡◌, refl, sym, ap, ap₂, ◌∙◌, subst}
 use mathlib.Core.Logic.{⊎_elim}
 use mathlib.Core.List.{List, [], ◌∷◌, ◌++◌, append_assoc}
 use lib.ListN.{length, get_or, take, drop, set, length-drop}
-use lib.Seq.{take-nil, length-take-le, take_at, drop_at, take-take, drop-drop, take-append-le, drop-append-le, get_or-drop, get_or-take, take-set-le, take-set-lt, drop-set-lt, drop-set-add, set-set, get_or-set_same, get_or-set_other}
+use lib.Seq.{take-nil, length-take-le, take_at, drop_at, take-take, drop-drop, take-append-le, drop-append-le, get_or-drop, get_or-take, take-set-le, take-set-lt, drop-set-lt, drop-set-add, set-set, get_or-set_same, get_or-set_other, set-get_or}
+use Rattle.std.specs.Prelude.{Option, unwrap_or}
 use Rattle.ranks.specs.Position.{Position}
 use Rattle.ranks.specs.Table.{slice, byte, records, spliced, position_in, put_position, moved, Shape}
 use Rattle.ranks.specs.Lists.{map_with_index}
@@ -156,6 +157,15 @@ pub record SteppedUpTo (n a k : ℕ) (R : ℕ → Position → Position → Type
   pub below : (j : ℕ) → j < i → (p : Position) × R j (position_in a (get_or (records k n t₀) j [])) p × (get_or (records k n t) j [] ≡ put_position a p (get_or (records k n t₀) j []))
   pub rest : (j : ℕ) → i ≤ j → get_or (records k n t) j [] ≡ get_or (records k n t₀) j []
 
+-- the position that a step made of one, or the same where it made none
+abbrev pub Made : (ℕ → Position → Option Position → Type 0) → ℕ → Position → Position → Type 0
+Made step j p q = (other : Option Position) × step j p other × (q ≡ unwrap_or other p)
+
+-- a position written where it stands changes nothing
+pub put_same : (i : ℕ) (t : List ℕ) {p : Position} → p ≡ position_in i t → t ≡ put_position i p t
+put_same i t {p} read =
+    sym (ap (λ (q : Position). put_position i q t) read ∙ ap (λ (l : List ℕ). set l (i + 1) (byte (i + 1) t)) (set-get_or t i 0) ∙ set-get_or t (i + 1) 0)
+
 module _ {n a k : ℕ} {R : ℕ → Position → Position → Type 0} {t₀ t : List ℕ} {i : ℕ} (stepped : SteppedUpTo n a k R t₀ t i) (hi : i < k) (p q : Position)
     (read : p ≡ position_in a (get_or (records k n t) i [])) (made : R i p q) where
   -- record i gets the position that the step made of the one that was read
@@ -186,6 +196,13 @@ module _ {n a k : ℕ} {R : ℕ → Position → Position → Type 0} {t₀ t : 
 
       before-it : (j : ℕ) → j < i → (j ≡ i → ⊥) → G j
       before-it j h ne = let (r, s, e) = stepped.below j h in (r, s, other j ne ∙ e)
+
+  -- a position that stays is not written
+  pub one-more-kept : {u : List ℕ} → u ≡ t → q ≡ p → SteppedUpTo n a k R t₀ u (i + 1)
+  one-more-kept {u} e same =
+      one-more-stepped (ap length e)
+      (ap (records k n) e
+      ∙ sym (ap (set (records k n t) i) (sym (put_same a (get_or (records k n t) i []) (same ∙ read))) ∙ set-get_or (records k n t) i []))
 
 -- the table, where the step is a function
 pub all-moved : (n a k : ℕ) (F : ℕ → Position → Position) (t₀ t : List ℕ)

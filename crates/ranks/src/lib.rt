@@ -1,7 +1,7 @@
 // The rank steps, for messages and waiters alike.
 #![tactic(auto)]
 
-ghost use Rattle.std.specs.Prelude.{◌≡◌, ℕ, true, ◌<◌, [], length, get_or, set};
+ghost use Rattle.std.specs.Prelude.{◌≡◌, ℕ, true, ◌<◌, [], length, get_or, set, unwrap_or};
 ghost use Rattle.ranks.specs.Lists.{map_with_index, found_below};
 ghost use Rattle.ranks.specs.Position.{Position, in_queue, stands_at};
 ghost use Rattle.ranks.specs.Table.{records, position_in, put_position, moved, Shape};
@@ -49,57 +49,66 @@ impl Positions {
     }
 }
 
-// The position of record j after record i was taken out from the rank.
+// The other position of record j after record i was taken out from the rank, if it has one: most are neither i nor in the queue.
 #[tactic(auto, unfolding(crate::specs::Steps::taken_out))]
-fn after_take_out(i: usize, slot: u8, rank: u8, j: usize, p: Position) -> Position
+fn after_take_out(i: usize, slot: u8, rank: u8, j: usize, p: Position) -> Option<Position>
     requires { slot < 255 }
-    ensures { result ≡ taken_out i slot rank j p }
+    ensures { unwrap_or result p ≡ taken_out i slot rank j p }
 {
+    if (j != i) & (p.queue != slot + 1) {
+        return None;
+    }
     if j == i {
-        return Position { queue: 0, rank: 0 };
+        return Some(Position { queue: 0, rank: 0 });
     }
     if (p.queue == slot + 1) & (rank < p.rank) {
-        return Position {
+        return Some(Position {
             queue: slot + 1,
             rank: p.rank - 1,
-        };
+        });
     }
-    p
+    None
 }
 
-// The position of record j after record i was put in at the rank.
+// The other position of record j after record i was put in at the rank, if it has one: most are neither i nor in the queue.
 #[tactic(auto, unfolding(crate::specs::Steps::inserted))]
-fn after_insert(i: usize, slot: u8, rank: u8, j: usize, p: Position) -> Position
+fn after_insert(i: usize, slot: u8, rank: u8, j: usize, p: Position) -> Option<Position>
     requires { (slot < 255) × (in_queue slot p ≡ true → p.rank < 255) }
-    ensures { result ≡ inserted i slot rank j p }
+    ensures { unwrap_or result p ≡ inserted i slot rank j p }
 {
+    if (j != i) & (p.queue != slot + 1) {
+        return None;
+    }
     if j == i {
-        return Position {
+        return Some(Position {
             queue: slot + 1,
             rank,
-        };
+        });
     }
     if (p.queue == slot + 1) & (rank <= p.rank) {
-        return Position {
+        return Some(Position {
             queue: slot + 1,
             rank: p.rank + 1,
-        };
+        });
     }
-    p
+    None
 }
 
-// Each record gets the position that the step makes of its number and its position.
-fn shift<F: Fn(usize, Position) -> Position>(t: &mut [u8], positions: Positions, step: F)
+// Each record gets the position that the step makes of its number and its position, if it makes one. No other is written.
+fn shift<F: Fn(usize, Position) -> Option<Position>>(t: &mut [u8], positions: Positions, step: F)
     requires shape { Shape positions.stride positions.place positions.count (length t.old) }
     requires callable { (j : ℕ) → j < positions.count → F.pre step j (position_in positions.place (get_or (records positions.count positions.stride t.old) j [])) }
     ensures { (j : ℕ) → j < positions.count
-        → (p : Position) × F.post step j (position_in positions.place (get_or (records positions.count positions.stride t.old) j [])) p
+        → (other : _) × F.post step j (position_in positions.place (get_or (records positions.count positions.stride t.old) j [])) other
         × (get_or (records positions.count positions.stride t.new) j []
-        ≡ put_position positions.place p (get_or (records positions.count positions.stride t.old) j [])) }
+        ≡ put_position positions.place (unwrap_or other (position_in positions.place (get_or (records positions.count positions.stride t.old) j [])))
+        (get_or (records positions.count positions.stride t.old) j [])) }
 {
     for j in 0..positions.count {
         let p = positions.read(t, j);
-        positions.write(t, j, step(j, p));
+        if let Some(other) = step(j, p) {
+            positions.write(t, j, other);
+        }
     }
 }
 

@@ -65,6 +65,7 @@ fn stands_at(t: &[u8], at: usize, slot: usize, rank: u8) -> bool
 // For each live queue, its messages or waiters carry the ranks below their count, each exactly once: queue by queue, rank by rank, over the
 // records that can be in the queue. No record has a rank at its queue's count or above, so that a queue that holds nothing has no record.
 // The innermost loop counts the records at the rank, so that it has no branch. The labels of the two inner loops are their names in the proof.
+#[inline(always)]
 pub fn every_ranked(queues: &[u8], t: &[u8], positions: Positions, members: Members) -> bool
     requires { (length queues.now ≡ queues_size) × (Shape positions.stride positions.place positions.count (length t.now) × ((positions.count < byte_values)
         × ((every (λ j p. below_count members (decode_queues queues.now) p) (positions_in positions t.now) ≡ true)
@@ -77,16 +78,12 @@ pub fn every_ranked(queues: &[u8], t: &[u8], positions: Positions, members: Memb
         let n = members.held(q);
         if q.is_live() & (n != 0) {
             let from = members.part_start(slot);
-            let to = from + members.part_size(slot, positions.count);
+            let size = members.part_size(slot, positions.count);
             'ranks: for rank in 0..n {
                 let mut found: u16 = 0;
-                'records: for k in from..to {
-                    found += u16::from(stands_at(
-                        t,
-                        k * positions.stride + positions.place,
-                        slot,
-                        rank,
-                    ));
+                'records: for j in 0..size {
+                    let place = (from + j) * positions.stride + positions.place;
+                    found += u16::from(stands_at(t, place, slot, rank));
                 }
                 if found != 1 {
                     good = false;

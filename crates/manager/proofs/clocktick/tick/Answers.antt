@@ -13,4 +13,4 @@ tick_task-requires c = each_task _ _ _ _ _ _ c.loop-t.invariant c.requires.0 _ (
 pub loop-t-preserved : goal.loop-t-preserved
 loop-t-preserved c =
     let done = c.tick_task in
-    one_more_ticked _ _ _ _ _ _ c.loop-t.invariant _ _ (omega arith) done.auto.queues done.auto.tasks (search rules) (search rules) (done.ensures c.args.pool.now)
+    one_more_ticked _ _ _ _ _ _ c.loop-t.invariant _ _ (omega arith) done.auto.queues done.auto.tasks (search rules) (search rules) (done.ensures.1 c.args.pool.now)

@@ -1,5 +1,5 @@
 -- `soundness::ranked::every_ranked` meets its contract. Assumes nothing.
-use Prim.Native.Nat.{◌-◌}
+use Prim.Native.Nat.{◌+◌, ◌-◌}
 use Rattle.ranks.proofs.Searches.{AllBelow}
 use Rattle.records.specs.Layout.{slot_count}
 use Rattle.records.specs.Bytes.{decode_queues}
@@ -9,11 +9,11 @@ use Rattle.soundness.proofs.ranked.every_ranked.Given as goal
 
 abbrev pub invariant-records : goal.invariant-records
 invariant-records l =
-    Counted (positions_in l.positions l.t) l.slot l.rank l.from l.to l.found l.k
+    Counted (positions_in l.positions l.t) l.slot l.rank l.from (l.from + l.size) l.found (l.from + l.j)
 
 abbrev pub decreases-records : goal.decreases-records
 decreases-records l =
-    l.to - l.k
+    l.size - l.j
 
 abbrev pub invariant-ranks : goal.invariant-ranks
 invariant-ranks l =

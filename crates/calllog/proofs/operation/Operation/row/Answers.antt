@@ -1,28 +1,26 @@
 -- `calllog::operation::Operation::row` meets its contract. Assumes nothing.
 use denote.Enum.Declared.{tag_of}
-use mathlib.Core.Path.{◌≡◌, refl}
-use Rattle.std.specs.Prelude.{◌+◌, [], map, get_or}
+use mathlib.Core.Path.{◌≡◌, refl, ap, ◌∙◌}
+use Rattle.std.specs.Prelude.{ℕ, ◌+◌}
 use Rattle.calllog.specs.contracts.operation.Operation.{the_type}
 use Rattle.calllog.specs.declared.operation.Operation.{Operation}
 use Rattle.calllog.specs.declared.operation.Operation.TheVariants.{Create, Ident, Delete, Send, Urgent, Broadcast, Receive, Pending, Flush, Tick}
-use Rattle.calllog.specs.CallLog.{rows, row_of, names}
+use Rattle.calllog.specs.CallLog.{row_of}
 use Rattle.calllog.specs.Operations.{number_of, row_with}
 use Rattle.calllog.proofs.operation.Operation.row.Goals as goal
 
--- the table has the document's rows, and an operation's is at its number
-at_number : (o : Operation) → get_or (map row_with rows) (tag_of the_type o + 1) (row_with []) ≡ row_with (row_of (number_of o))
-unfolding rows row_of names
-at_number Create = refl
-at_number Ident = refl
-at_number Delete = refl
-at_number Send = refl
-at_number Urgent = refl
-at_number Broadcast = refl
-at_number Receive = refl
-at_number Pending = refl
-at_number Flush = refl
-at_number Tick = refl
+-- the number that an operation is cast to
+cast_number : (o : Operation) → tag_of the_type o + 1 ≡ number_of o
+cast_number Create = refl
+cast_number Ident = refl
+cast_number Delete = refl
+cast_number Send = refl
+cast_number Urgent = refl
+cast_number Broadcast = refl
+cast_number Receive = refl
+cast_number Pending = refl
+cast_number Flush = refl
+cast_number Tick = refl
 
 pub returns : goal.returns
-unfolding rows names
-returns c = at_number c.args.self
+returns c = c.row_of.ensures ∙ ap (λ (n : ℕ). row_with (row_of n)) (cast_number c.args.self)

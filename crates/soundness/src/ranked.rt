@@ -65,6 +65,7 @@ fn stands_at(t: &[u8], at: usize, slot: usize, rank: u8) -> bool
 // For each live queue, its messages or waiters carry the ranks below their count, each exactly once: queue by queue, rank by rank, over the
 // records that can be in the queue. No record has a rank at its queue's count or above, so that a queue that holds nothing has no record.
 // The innermost loop counts the records at the rank, so that it has no branch. The labels of the two inner loops are their names in the proof.
+// Each call has a copy of its own, in which the positions and the members are constants.
 #[inline(always)]
 pub fn every_ranked(queues: &[u8], t: &[u8], positions: Positions, members: Members) -> bool
     requires { (length queues.now ≡ queues_size) × (Shape positions.stride positions.place positions.count (length t.now) × ((positions.count < byte_values)

@@ -51,7 +51,7 @@ module _ (r : List ℕ) (whole : length r ≡ record_width) where
   to-end = take_all capacity (message_of r) (omega (arith, length-drop message_place r))
 
   -- the definition's tests, one after the other
-  each : (row : List Field) →
+  pub each : (row : List Field) →
       ((((((((((names row caller || eqb (caller of r) 0) && (names row option || eqb (option of r) 0)) && (names row size || eqb (size of r) 0))
       && (names row id || eqb (id of r) 0)) && (names row ticks || eqb (ticks of r) 0)) && (names row limit || eqb (limit of r) 0)) && (names row max_size || eqb (max_size of r) 0))
       && (names row message || all_zero (message_of r))) && eqb (reserved of r) 0) && leb (size of r) capacity)

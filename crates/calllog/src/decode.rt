@@ -61,7 +61,7 @@ fn message_size(row: Row, numbers: Numbers) -> usize
 }
 
 // "Anything else not zero, a size above 120" is malformed: a field that the operation's row does not name is zero, and so is what follows the
-// message. The tests have no branch between them.
+// message, which is the whole field where the row names none. The tests have no branch between them.
 #[tactic(auto, using(crate::proofs::Laws::keeps))]
 fn keeps_row(operation: Operation, numbers: Numbers, bytes: &[u8; RECORD_WIDTH]) -> bool
     requires { numbers ≡ numbers_in bytes.now }

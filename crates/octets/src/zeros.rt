@@ -26,6 +26,7 @@ fn single_zeros_from(t: &[u8], from: usize) -> bool
 }
 
 // The bytes from a place on are zero, in blocks. The last block is at the end, so that it may overlap the one before it.
+// Each call has a copy of its own: a call for each record takes longer than the test.
 #[inline(always)]
 pub fn zeros_from(t: &[u8], from: usize) -> bool
     ensures { result ≡ all_zero (drop from t.now) }

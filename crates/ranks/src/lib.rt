@@ -61,7 +61,7 @@ fn after_take_out(i: usize, slot: u8, rank: u8, j: usize, p: Position) -> Option
     if j == i {
         return Some(Position { queue: 0, rank: 0 });
     }
-    if (p.queue == slot + 1) & (rank < p.rank) {
+    if rank < p.rank {
         return Some(Position {
             queue: slot + 1,
             rank: p.rank - 1,
@@ -85,7 +85,7 @@ fn after_insert(i: usize, slot: u8, rank: u8, j: usize, p: Position) -> Option<P
             rank,
         });
     }
-    if (p.queue == slot + 1) & (rank <= p.rank) {
+    if rank <= p.rank {
         return Some(Position {
             queue: slot + 1,
             rank: p.rank + 1,
